@@ -1,0 +1,64 @@
+-- What a look leaves in the list of levels, and that looks leave the levels and the lines in range.
+use mathlib.Core.Path.{_≡_, refl, sym, ap, _∙_, subst}
+use mathlib.Core.Bool.{Bool, true, false, cond}
+use mathlib.Core.List.{List, [], _∷_, _++_}
+use Prim.Native.Nat.{ℕ, _^_, _<_}
+use native.Mathlib.Omega.{arith}
+use lib.ListN.{length, getD, set, length-set}
+use lib.Seq.{getD-set-same}
+use lib.Pow.{pow-pos}
+use Rattle.words.proofs.BelowLaws.{or-below-lt}
+use Rattle.words.proofs.ListLaws.{getD-set-either}
+use Rattle.lines.specs.Arbitration.{Arbitration, Contender, shown, looked, afterLook, afterLooks}
+use Rattle.lines.specs.Promises.{InRange, LevelsInRange, LinesInRange}
+use Rattle.lines.proofs.LookLaws.{look-lt}
+
+module _ (a : Arbitration) where
+  pub length-look : (levels : List ℕ) (p : ℕ) → length (afterLook a levels p) ≡ length levels
+  unfolding afterLook
+  length-look levels p = go (a .contends p)
+    where
+      go : (b : Bool) → length (cond b (set levels p (looked a levels p)) levels) ≡ length levels
+      go true = length-set levels p (looked a levels p)
+      go false = refl
+
+  -- a contender's look sets what it drives
+  pub own-look : (levels : List ℕ) → length levels ≡ a .places → (q : ℕ) → Contender a q → getD (afterLook a levels q) q 0 ≡ looked a levels q
+  unfolding afterLook
+  own-look levels size q k =
+      ap (λ (b : Bool). getD (cond b (set levels q (looked a levels q)) levels) q 0) (k .contending)
+      ∙ getD-set-same levels q (looked a levels q) 0 (omega (arith, k .present, size))
+
+  -- after anyone's look a card drives what it drove, or what its own look at those lines gives: so what holds of both holds of its level
+  pub after-look : (P : ℕ → Type 0) (levels : List ℕ) (p q : ℕ) → P (getD levels q 0) → P (looked a levels q) → P (getD (afterLook a levels p) q 0)
+  unfolding afterLook
+  after-look P levels p q old new = go (a .contends p)
+    where
+      go : (b : Bool) → P (getD (cond b (set levels p (looked a levels p)) levels) q 0)
+      go false = old
+      go true = getD-set-either P levels p q (looked a levels p) old (λ e. subst (λ (x : ℕ). P (looked a levels x)) e new)
+
+  pub after-append : (levels looks more : List ℕ) → afterLooks a levels (looks ++ more) ≡ afterLooks a (afterLooks a levels looks) more
+  unfolding afterLooks
+  after-append levels [] more = refl
+  after-append levels (p ∷ looks) more = after-append (afterLook a levels p) looks more
+
+pub levels-in-range : LevelsInRange
+unfolding afterLooks looked
+levels-in-range a levels r [] = r
+levels-in-range a levels r (p ∷ looks) =
+    levels-in-range a (afterLook a levels p)
+    record {
+      size = length-look a levels p ∙ r .size;
+      below = λ q k. after-look a (λ (x : ℕ). x < 2 ^ a .width) levels p q (r .below q k) (look-lt (a .width) (a .number q) (shown a levels));
+    }
+    looks
+
+pub lines-in-range : LinesInRange
+unfolding shown
+lines-in-range a levels r =
+    or-below-lt (a .width) (λ q. cond (a .contends q) (getD levels q 0) 0) (a .places) (λ q h. go q h (a .contends q) refl)
+  where
+    go : (q : ℕ) → q < a .places → (b : Bool) → a .contends q ≡ b → cond b (getD levels q 0) 0 < 2 ^ a .width
+    go q h true e = r .below q record { present = h; contending = e }
+    go q h false e = pow-pos (a .width)

@@ -1,0 +1,65 @@
+-- The laws of `allBelow` and `orBelow`: one entry out of all, all from each, and what the OR of many numbers is.
+use mathlib.Core.Path.{_≡_, refl, sym, ap, ap₂, _∙_}
+use mathlib.Core.Logic.{_⊎_, inl, inr, ⊎-elim}
+use mathlib.Core.Bool.{Bool, true, false, _&&_, and-eq-true-iff}
+use Prim.Native.Nat.{ℕ, zero, suc, _/_, _^_, _<_}
+use native.Mathlib.Nat.{not-suc-le-zero, le-of-suc-le-suc, eq-or-lt-of-le, le-step, lt-suc-self}
+use lib.Pow.{pow-pos}
+use lib.Bits.{bitOr, or-shr, or-lt, or-comm}
+use Rattle.words.specs.Below.{allBelow, orBelow}
+use Rattle.words.proofs.BitLaws.{bitOr-assoc}
+
+-- a number below n + 1 is n or below it
+pub last-or-below : {k n : ℕ} → k < suc n → (k ≡ n) ⊎ (k < n)
+last-or-below h = eq-or-lt-of-le (le-of-suc-le-suc h)
+
+module _ (test : ℕ → Bool) where
+  pub all-at : (n : ℕ) → allBelow test n ≡ true → (k : ℕ) → k < n → test k ≡ true
+  unfolding allBelow
+  all-at zero e k h = absurd (not-suc-le-zero h)
+  all-at (suc n) e k h =
+      let parts = and-eq-true-iff (allBelow test n) (test n) .0 e in
+      ⊎-elim (λ (q : k ≡ n). ap test q ∙ parts .1) (λ l. all-at n (parts .0) k l) (last-or-below h)
+
+  pub all-of : (n : ℕ) → ((k : ℕ) → k < n → test k ≡ true) → allBelow test n ≡ true
+  unfolding allBelow
+  all-of zero each = refl
+  all-of (suc n) each =
+      and-eq-true-iff (allBelow test n) (test n) .1 (all-of n (λ k h. each k (le-step h)), each n (lt-suc-self n))
+
+-- the OR of numbers of w places has w places
+pub or-below-lt : (w : ℕ) (f : ℕ → ℕ) (n : ℕ) → ((k : ℕ) → k < n → f k < 2 ^ w) → orBelow f n < 2 ^ w
+unfolding orBelow
+or-below-lt w f zero each = pow-pos w
+or-below-lt w f (suc n) each =
+    or-lt w (orBelow f n) (f n) (or-below-lt w f n (λ k h. each k (le-step h))) (each n (lt-suc-self n))
+
+-- numbers that agree above place j, one by one, have ORs that agree there
+pub or-below-agree : (j : ℕ) (f g : ℕ → ℕ) (n : ℕ) → ((k : ℕ) → k < n → f k / 2 ^ j ≡ g k / 2 ^ j) → orBelow f n / 2 ^ j ≡ orBelow g n / 2 ^ j
+unfolding orBelow
+or-below-agree j f g zero each = refl
+or-below-agree j f g (suc n) each =
+    or-shr (orBelow f n) (f n) j
+    ∙ ap₂ bitOr (or-below-agree j f g n (λ k h. each k (le-step h))) (each n (lt-suc-self n))
+    ∙ sym (or-shr (orBelow g n) (g n) j)
+
+-- Numbers whose ones are all ones of m: their OR adds nothing to m, and it is m where one of them is.
+module _ (m : ℕ) (f : ℕ → ℕ) where
+  pub or-below-within : (n : ℕ) → ((k : ℕ) → k < n → bitOr (f k) m ≡ m) → bitOr (orBelow f n) m ≡ m
+  unfolding orBelow
+  or-below-within zero each = refl
+  or-below-within (suc n) each =
+      bitOr-assoc (orBelow f n) (f n) m
+      ∙ ap (bitOr (orBelow f n)) (each n (lt-suc-self n))
+      ∙ or-below-within n (λ k h. each k (le-step h))
+
+  pub or-below-top : (n : ℕ) → ((k : ℕ) → k < n → bitOr (f k) m ≡ m) → (p : ℕ) → p < n → f p ≡ m → orBelow f n ≡ m
+  unfolding orBelow
+  or-below-top zero each p h e = absurd (not-suc-le-zero h)
+  or-below-top (suc n) each p h e =
+      let below : (k : ℕ) → k < n → bitOr (f k) m ≡ m = λ k l. each k (le-step l) in
+      ⊎-elim
+      (λ (q : p ≡ n). ap (λ (x : ℕ). bitOr (orBelow f n) (f x)) (sym q) ∙ ap (bitOr (orBelow f n)) e ∙ or-below-within n below)
+      (λ l.
+      ap (λ (x : ℕ). bitOr x (f n)) (or-below-top n below p l e) ∙ or-comm m (f n) ∙ each n (lt-suc-self n))
+      (last-or-below h)

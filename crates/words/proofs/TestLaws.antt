@@ -1,0 +1,28 @@
+-- What a test that came out true says of its parts, and what makes one come out true.
+use mathlib.Core.Path.{_≡_, refl, sym}
+use mathlib.Core.Logic.{_⊎_, inl, inr}
+use mathlib.Core.Bool.{Bool, true, false, not, cond, _||_, true≢false}
+
+-- a test is true or false, with the equation in hand
+pub known : (b : Bool) → (b ≡ true) ⊎ (b ≡ false)
+known true = inl refl
+known false = inr refl
+
+-- a disjunction that holds: one of its sides does
+pub either-of : (a b : Bool) → (a || b) ≡ true → (a ≡ true) ⊎ (b ≡ true)
+either-of true b e = inl refl
+either-of false b e = inr e
+
+-- `not a || b` is how a test says 'if a then b': where it holds, and a does, b does
+pub then-of : (a b : Bool) → (not a || b) ≡ true → a ≡ true → b ≡ true
+then-of true b e h = e
+then-of false b e h = absurd (true≢false (sym h))
+
+pub of-then : (a b : Bool) → (a ≡ true → b ≡ true) → (not a || b) ≡ true
+of-then true b h = h refl
+of-then false b h = refl
+
+-- a test that has failed is not asked again
+pub cond-again : (b : Bool) {A : Type 0} (x y z : A) → cond b x (cond b y z) ≡ cond b x z
+cond-again true x y z = refl
+cond-again false x y z = refl

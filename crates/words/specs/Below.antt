@@ -1,0 +1,14 @@
+-- What is asked or gathered of every number below a bound, in ascending order: the entries of a table, the cards of a chassis.
+use Prim.Native.Nat.{ℕ, zero, suc}
+use mathlib.Core.Bool.{Bool, true, _&&_}
+use lib.Bits.{bitOr}
+
+-- the test holds of each number below the bound
+unfoldable pub allBelow : (ℕ → Bool) → ℕ → Bool
+allBelow test zero = true
+allBelow test (suc n) = allBelow test n && test n
+
+-- the OR, bit by bit, of what f gives for each number below the bound
+unfoldable pub orBelow : (ℕ → ℕ) → ℕ → ℕ
+orBelow f zero = 0
+orBelow f (suc n) = bitOr (orBelow f n) (f n)
