@@ -7,17 +7,17 @@ use mathlib.Core.List.{List, [], _∷_, flatten}
 use lib.Dec.{eqb}
 use lib.ListN.{getD, replicate}
 use Rattle.words.specs.Among.{isAmong}
-use Rattle.lines.specs.Arbitration.{Arbitration, shown, settled, afterLooks, areRounds}
+use Rattle.lines.specs.Arbitration.{Arbitration, Highest, shown, settled, afterLooks, areRounds}
 use Rattle.lines.specs.Promises.{SettledAt}
 use Rattle.lines.specs.Four.{four}
 
 -- ---- Cards 4, 9 and 10 contend, nobody drives at first, and they look in a bad order.
 
-abbrev pub unlucky : Arbitration
-unlucky = four (λ n. isAmong n (4 ∷ 9 ∷ 10 ∷ []))
-
 abbrev pub inTurn : List ℕ
 inTurn = 4 ∷ 9 ∷ 10 ∷ []
+
+abbrev pub unlucky : Arbitration
+unlucky = four (λ n. isAmong n inTurn)
 
 abbrev pub lowestLast : List ℕ
 lowestLast = 9 ∷ 10 ∷ 4 ∷ []
@@ -29,12 +29,13 @@ abbrev pub levelsAfter : List (List ℕ) → List ℕ
 levelsAfter rounds = afterLooks unlucky (replicate 16 0) (flatten rounds)
 
 pub record ThreeRoundsFallShort : Type 0 where
+  pub highest : Highest unlucky 10
   pub rounds : areRounds unlucky threeRounds ≡ true
   -- the lines after one, two and three rounds
   pub one : shown unlucky (levelsAfter (inTurn ∷ [])) ≡ 12
   pub two : shown unlucky (levelsAfter (inTurn ∷ lowestLast ∷ [])) ≡ 8
   pub three : shown unlucky (levelsAfter threeRounds) ≡ 11
-  -- which no contender has for its number
+  -- the last of which no contender has for its number
   pub nobodys : unlucky .contends 11 ≡ false
   pub unsettled : settled unlucky (levelsAfter threeRounds) ≡ false
   -- and the fourth round settles them
