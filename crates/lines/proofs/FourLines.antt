@@ -1,17 +1,21 @@
 -- The four lines, as an instance of any number of lines.
-use mathlib.Core.Path.{_≡_, refl}
-use mathlib.Core.List.{List, [], _∷_}
+use mathlib.Core.Path.{refl}
+use mathlib.Core.List.{[], _∷_}
 use Prim.Native.Nat.{suc-le-suc}
-use Rattle.lines.specs.Arbitration.{areRounds}
-use Rattle.lines.specs.Four.{four, FourRoundsSettle}
+use Rattle.lines.specs.Arbitration.{fourLines, areRounds}
+use Rattle.lines.specs.Promises.{FourRoundsSettle, FourHighestUnique}
+use Rattle.lines.proofs.ContenderLaws.{by-number-fit, by-number-distinct}
+use Rattle.lines.proofs.HighestLaws.{highest-unique}
 use Rattle.lines.proofs.Settling.{rounds-settle}
-use Rattle.lines.proofs.Unique.{by-number-numbered}
 
 pub four-rounds-settle : FourRoundsSettle
 unfolding areRounds
 four-rounds-settle contends m best levels size below r₁ r₂ r₃ r₄ e₁ e₂ e₃ e₄ =
-    rounds-settle (four contends) (by-number-numbered 4 contends) m best levels
+    rounds-settle (fourLines contends) (by-number-fit 4 contends) m best levels
     record { size = size; below = λ q k. suc-le-suc (below q (k .present) (k .contending)) }
     (r₁ ∷ r₂ ∷ r₃ ∷ r₄ ∷ [])
     refl
     (rw (e₁, e₂, e₃, e₄))
+
+pub four-highest-unique : FourHighestUnique
+four-highest-unique contends = highest-unique (fourLines contends) (by-number-distinct 4 contends)

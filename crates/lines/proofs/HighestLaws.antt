@@ -5,10 +5,10 @@ use mathlib.Core.Bool.{true, false, false≢true}
 use Prim.Native.Nat.{ℕ, zero, suc, _≤_}
 use native.Mathlib.Nat.{not-suc-le-zero, le-of-eq, le-step, le-trans, le-of-lt, lt-of-not-le, le-antisymm, lt-suc-self}
 use native.Mathlib.Decide.{decLe}
-use Rattle.words.proofs.TestLaws.{known}
+use Rattle.words.proofs.TestLaws.{true-or-false}
 use Rattle.words.proofs.BelowLaws.{last-or-below}
 use Rattle.lines.specs.Arbitration.{Arbitration, Contender, Highest}
-use Rattle.lines.specs.Promises.{HighestExists, HighestOnce}
+use Rattle.lines.specs.Promises.{HighestExists, HighestUnique}
 
 module _ (a : Arbitration) where
   -- the same arbitration with the first n places alone
@@ -37,7 +37,7 @@ module _ (a : Arbitration) where
       against q k s = subst (λ (x : ℕ). a .number x ≤ a .number p) (sym s) (beaten (ap (a .contends) (sym s) ∙ k .contending))
 
   one-more : (n p : ℕ) → Highest (first n) p → (r : ℕ) × Highest (first (suc n)) r
-  one-more n p best = go (decLe (a .number n) (a .number p)) (known (a .contends n))
+  one-more n p best = go (decLe (a .number n) (a .number p)) (true-or-false (a .contends n))
     where
       go : Dec (a .number n ≤ a .number p) → (a .contends n ≡ true) ⊎ (a .contends n ≡ false) → (r : ℕ) × Highest (first (suc n)) r
       go (yes h) d = (p, first-wins n p best (λ t. h))
@@ -45,9 +45,9 @@ module _ (a : Arbitration) where
       go (no h) (inr f) = (p, first-wins n p best (λ t. absurd (false≢true (sym f ∙ t))))
 
   -- among the first n places nobody contends, or there is a highest contender
-  find : (n : ℕ) → ((q : ℕ) → Contender (first n) q → ⊥) ⊎ ((p : ℕ) × Highest (first n) p)
-  find zero = inl (λ q k. not-suc-le-zero (k .present))
-  find (suc n) = ⊎-elim (λ none. go none (known (a .contends n))) (λ best. inr (one-more n (best .0) (best .1))) (find n)
+  find-highest : (n : ℕ) → ((q : ℕ) → Contender (first n) q → ⊥) ⊎ ((p : ℕ) × Highest (first n) p)
+  find-highest zero = inl (λ q k. not-suc-le-zero (k .present))
+  find-highest (suc n) = ⊎-elim (λ none. go none (true-or-false (a .contends n))) (λ best. inr (one-more n (best .0) (best .1))) (find-highest n)
     where
       go : ((q : ℕ) → Contender (first n) q → ⊥) → (a .contends n ≡ true) ⊎ (a .contends n ≡ false)
           → ((q : ℕ) → Contender (first (suc n)) q → ⊥) ⊎ ((p : ℕ) × Highest (first (suc n)) p)
@@ -56,9 +56,9 @@ module _ (a : Arbitration) where
           inl (λ q k. ⊎-elim (λ (s : q ≡ n). false≢true (sym f ∙ ap (a .contends) (sym s) ∙ k .contending)) (none q) (last-or-first k))
 
 pub highest-exists : HighestExists
-highest-exists a q k = ⊎-elim (λ none. absurd (none q k)) (λ best. best) (find a (a .places))
+highest-exists a q k = ⊎-elim (λ none. absurd (none q k)) (λ best. best) (find-highest a (a .places))
 
-pub highest-once : HighestOnce
-highest-once a distinct p q best other =
+pub highest-unique : HighestUnique
+highest-unique a distinct p q best other =
     distinct p q (best .contender) (other .contender)
     (le-antisymm (other .top p (best .contender)) (best .top q (other .contender)))

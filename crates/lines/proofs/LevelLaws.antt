@@ -1,5 +1,5 @@
 -- What a look leaves in the list of levels, and that looks leave the levels and the lines in range.
-use mathlib.Core.Path.{_≡_, refl, sym, ap, _∙_, subst}
+use mathlib.Core.Path.{_≡_, refl, ap, _∙_, subst}
 use mathlib.Core.Bool.{Bool, true, false, cond}
 use mathlib.Core.List.{List, [], _∷_, _++_}
 use Prim.Native.Nat.{ℕ, _^_, _<_}
@@ -10,8 +10,9 @@ use lib.Pow.{pow-pos}
 use Rattle.words.proofs.BelowLaws.{or-below-lt}
 use Rattle.words.proofs.ListLaws.{getD-set-either}
 use Rattle.lines.specs.Arbitration.{Arbitration, Contender, shown, looked, afterLook, afterLooks}
-use Rattle.lines.specs.Promises.{InRange, LevelsInRange, LinesInRange}
-use Rattle.lines.proofs.LookLaws.{look-lt}
+use Rattle.lines.specs.Promises.{LevelsInRange, LinesInRange}
+use Rattle.lines.proofs.LookLaws.{look-in-range}
+use Rattle.lines.proofs.ContenderLaws.{by-contending}
 
 module _ (a : Arbitration) where
   pub length-look : (levels : List ℕ) (p : ℕ) → length (afterLook a levels p) ≡ length levels
@@ -43,22 +44,23 @@ module _ (a : Arbitration) where
   after-append levels [] more = refl
   after-append levels (p ∷ looks) more = after-append (afterLook a levels p) looks more
 
+  pub looked-in-range : (levels : List ℕ) (q : ℕ) → looked a levels q < 2 ^ a .width
+  unfolding looked
+  looked-in-range levels q = look-in-range (a .width) (a .number q) (shown a levels)
+
 pub levels-in-range : LevelsInRange
-unfolding afterLooks looked
+unfolding afterLooks
 levels-in-range a levels r [] = r
 levels-in-range a levels r (p ∷ looks) =
     levels-in-range a (afterLook a levels p)
     record {
       size = length-look a levels p ∙ r .size;
-      below = λ q k. after-look a (λ (x : ℕ). x < 2 ^ a .width) levels p q (r .below q k) (look-lt (a .width) (a .number q) (shown a levels));
+      below = λ q k. after-look a (λ (x : ℕ). x < 2 ^ a .width) levels p q (r .below q k) (looked-in-range a levels q);
     }
     looks
 
 pub lines-in-range : LinesInRange
 unfolding shown
 lines-in-range a levels r =
-    or-below-lt (a .width) (λ q. cond (a .contends q) (getD levels q 0) 0) (a .places) (λ q h. go q h (a .contends q) refl)
-  where
-    go : (q : ℕ) → q < a .places → (b : Bool) → a .contends q ≡ b → cond b (getD levels q 0) 0 < 2 ^ a .width
-    go q h true e = r .below q record { present = h; contending = e }
-    go q h false e = pow-pos (a .width)
+    or-below-lt (a .width) (λ q. cond (a .contends q) (getD levels q 0) 0) (a .places) (λ q h.
+    by-contending a (λ (b : Bool). cond b (getD levels q 0) 0 < 2 ^ a .width) q h (r .below q) (pow-pos (a .width)))

@@ -1,40 +1,47 @@
 -- The promises for contenders given as a list of distinct numbers: those for any arbitration, at this one.
-use mathlib.Core.Path.{_≡_}
+use mathlib.Core.Path.{refl}
 use mathlib.Core.Bool.{true≢false}
-use mathlib.Core.List.{List}
+use mathlib.Core.List.{List, _∷_}
 use Prim.Native.Nat.{ℕ}
+use native.Mathlib.Nat.{zero-lt-suc}
+use lib.ListN.{length}
 use Rattle.lines.specs.Arbitration.{listed}
 use Rattle.lines.specs.Promises.{
-  Numbered,
+  NumbersFit,
   Distinct,
   DistinctBelow,
+  ListedHighestExists,
+  ListedHighestUnique,
   ListedRoundsSettle,
-  ListedSettledOnce,
   ListedShowHighest,
-  ListedHighestOnce,
+  ListedSettledUnique,
 }
-use Rattle.lines.proofs.HighestLaws.{highest-once}
+use Rattle.lines.proofs.HighestLaws.{highest-exists, highest-unique}
 use Rattle.lines.proofs.Settling.{rounds-settle, settled-show-highest}
-use Rattle.lines.proofs.Unique.{settled-levels-once}
+use Rattle.lines.proofs.Unique.{settled-list-unique}
 
-numbered : (w : ℕ) (numbers : List ℕ) → DistinctBelow w numbers → Numbered (listed w numbers)
-numbered w numbers d q k = d .below q (k .present)
+fit : (w : ℕ) (numbers : List ℕ) → DistinctBelow w numbers → NumbersFit (listed w numbers)
+fit w numbers d q k = d .below q (k .present)
 
-distinct : (w : ℕ) (numbers : List ℕ) → DistinctBelow w numbers → Distinct (listed w numbers)
-distinct w numbers d q r kq kr = d .distinct q r (kq .present) (kr .present)
+apart : (w : ℕ) (numbers : List ℕ) → DistinctBelow w numbers → Distinct (listed w numbers)
+apart w numbers d q r kq kr = d .distinct q r (kq .present) (kr .present)
+
+pub listed-highest-exists : ListedHighestExists
+listed-highest-exists w number others =
+    highest-exists (listed w (number ∷ others)) 0 record { present = zero-lt-suc (length others); contending = refl }
+
+pub listed-highest-unique : ListedHighestUnique
+listed-highest-unique w numbers d = highest-unique (listed w numbers) (apart w numbers d)
 
 pub listed-rounds-settle : ListedRoundsSettle
 listed-rounds-settle w numbers d p best levels r rounds count all after = (
-  rounds-settle (listed w numbers) (numbered w numbers d) p best levels r rounds count all after,
+  rounds-settle (listed w numbers) (fit w numbers d) p best levels r rounds count all after,
   λ q h same. d .distinct q p h (best .contender .present) same,
 )
 
-pub listed-settled-once : ListedSettledOnce
-listed-settled-once w numbers d l m sl sm =
-    settled-levels-once (listed w numbers) (numbered w numbers d) l m sl sm (λ q idle. absurd (true≢false idle))
-
 pub listed-show-highest : ListedShowHighest
-listed-show-highest w numbers d = settled-show-highest (listed w numbers) (numbered w numbers d)
+listed-show-highest w numbers d = settled-show-highest (listed w numbers) (fit w numbers d)
 
-pub listed-highest-once : ListedHighestOnce
-listed-highest-once w numbers d = highest-once (listed w numbers) (distinct w numbers d)
+pub listed-settled-unique : ListedSettledUnique
+listed-settled-unique w numbers d l m sl sm =
+    settled-list-unique (listed w numbers) (fit w numbers d) l m sl sm (λ q idle. absurd (true≢false idle))

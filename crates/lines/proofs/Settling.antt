@@ -5,21 +5,19 @@
 use mathlib.Core.Path.{_≡_, refl, sym, ap, _∙_, subst}
 use mathlib.Core.Logic.{_⊎_, inl, inr, ⊎-elim}
 use mathlib.Core.Bool.{Bool, true, false, cond, and-eq-true-iff}
-use mathlib.Core.List.{List, [], _∷_, _++_, flatten}
+use mathlib.Core.List.{List, [], _∷_, flatten}
 use Prim.Native.Nat.{ℕ, zero, suc, _+_, _/_, _%_, _^_, _<_, _≤_}
 use native.Mathlib.Nat.{add-zero, suc-add, zero-add, mod-eq-of-lt, div-eq-of-lt}
 use native.Mathlib.Decide.{decLt}
 use native.Mathlib.Omega.{arith}
-use lib.Dec.{eqb}
 use lib.ListN.{length, getD, set}
 use lib.Seq.{set-getD, set-out}
 use lib.Bits.{bitOr}
 use borrow.Author.Tests.{eqb-true, eq-eqb}
 use Rattle.words.specs.Below.{orBelow}
 use Rattle.words.specs.Among.{isAmong}
-use Rattle.words.proofs.TestLaws.{then-of, of-then}
 use Rattle.words.proofs.BitLaws.{agree-suc}
-use Rattle.words.proofs.BelowLaws.{all-at, all-of, or-below-agree, or-below-top}
+use Rattle.words.proofs.BelowLaws.{or-below-agree, or-below-top}
 use Rattle.words.proofs.ListLaws.{among-none, among-cases}
 use Rattle.lines.specs.Look.{look}
 use Rattle.lines.specs.Arbitration.{
@@ -34,24 +32,20 @@ use Rattle.lines.specs.Arbitration.{
   isRound,
   areRounds,
 }
-use Rattle.lines.specs.Promises.{Numbered, InRange, SettledAt, RoundsSettle, SettledStays, SettledShowHighest}
-use Rattle.lines.proofs.LookLaws.{look-lt, look-own, look-within, look-causal}
-use Rattle.lines.proofs.LevelLaws.{length-look, own-look, after-look, after-append, levels-in-range}
+use Rattle.lines.specs.Promises.{NumbersFit, InRange, SettledAt, RoundsSettle, SettledStays, SettledShowHighest}
+use Rattle.lines.proofs.LookLaws.{look-in-range, look-own, look-within, look-causal}
+use Rattle.lines.proofs.ContenderLaws.{every-contender, by-contending}
+use Rattle.lines.proofs.LevelLaws.{length-look, own-look, after-look, after-append, looked-in-range, levels-in-range}
 
 -- ---- What settled says, and that looks leave it so
 
 pub settled-at : (a : Arbitration) (levels : List ℕ) → settled a levels ≡ true → (q : ℕ) → Contender a q → looked a levels q ≡ getD levels q 0
 unfolding settled
-settled-at a levels e q k =
-    eqb-true (looked a levels q) (getD levels q 0)
-    (then-of (a .contends q) (eqb (looked a levels q) (getD levels q 0)) (all-at _ (a .places) e q (k .present)) (k .contending))
+settled-at a levels e q k = eqb-true (looked a levels q) (getD levels q 0) (every-contender a _ .0 e q k)
 
 pub settled-of : (a : Arbitration) (levels : List ℕ) → ((q : ℕ) → Contender a q → looked a levels q ≡ getD levels q 0) → settled a levels ≡ true
 unfolding settled
-settled-of a levels same =
-    all-of _ (a .places) (λ q h.
-    of-then (a .contends q) (eqb (looked a levels q) (getD levels q 0)) (λ e.
-    eq-eqb (looked a levels q) (getD levels q 0) (same q record { present = h; contending = e })))
+settled-of a levels same = every-contender a _ .1 (λ q k. eq-eqb (looked a levels q) (getD levels q 0) (same q k))
 
 pub settled-look : (a : Arbitration) (levels : List ℕ) → length levels ≡ a .places → settled a levels ≡ true → (q : ℕ) → afterLook a levels q ≡ levels
 unfolding afterLook
@@ -70,7 +64,7 @@ settled-stays a levels size e (q ∷ looks) =
 
 -- ---- The final levels
 
-module _ (a : Arbitration) (numbered : Numbered a) (p : ℕ) (best : Highest a p) where
+module _ (a : Arbitration) (fit : NumbersFit a) (p : ℕ) (best : Highest a p) where
   abbrev m : ℕ
   m = a .number p
 
@@ -78,13 +72,13 @@ module _ (a : Arbitration) (numbered : Numbered a) (p : ℕ) (best : Highest a p
   finalLevel q = look (a .width) (a .number q) m
 
   m-fits : m % 2 ^ a .width ≡ m
-  m-fits = mod-eq-of-lt (numbered p (best .contender))
+  m-fits = mod-eq-of-lt (fit p (best .contender))
 
   -- each is made of ones of m, and the highest contender's is m
   within : (q : ℕ) → Contender a q → bitOr (finalLevel q) m ≡ m
   unfolding finalLevel
   within q k =
-      let fits : a .number q % 2 ^ a .width ≡ a .number q = mod-eq-of-lt (numbered q k) in
+      let fits : a .number q % 2 ^ a .width ≡ a .number q = mod-eq-of-lt (fit q k) in
       subst (λ (x : ℕ). bitOr (finalLevel q) x ≡ x) m-fits
       (look-within (a .width) (a .number q) m (omega (arith, fits, m-fits, best .top q k)))
 
@@ -95,12 +89,11 @@ module _ (a : Arbitration) (numbered : Numbered a) (p : ℕ) (best : Highest a p
   -- so together they show m
   final-shown : orBelow (λ q. cond (a .contends q) (finalLevel q) 0) (a .places) ≡ m
   final-shown =
-      or-below-top m (λ q. cond (a .contends q) (finalLevel q) 0) (a .places) (λ q h. each q h (a .contends q) refl) p
-      (best .contender .present) (ap (λ (b : Bool). cond b (finalLevel p) 0) (best .contender .contending) ∙ own)
-    where
-      each : (q : ℕ) → q < a .places → (b : Bool) → a .contends q ≡ b → bitOr (cond b (finalLevel q) 0) m ≡ m
-      each q h true e = within q record { present = h; contending = e }
-      each q h false e = refl
+      or-below-top m (λ q. cond (a .contends q) (finalLevel q) 0) (a .places)
+      (λ q h. by-contending a (λ (b : Bool). bitOr (cond b (finalLevel q) 0) m ≡ m) q h (within q) refl)
+      p
+      (best .contender .present)
+      (ap (λ (b : Bool). cond b (finalLevel p) 0) (best .contender .contending) ∙ own)
 
   -- ---- Levels that are final from the place j up
 
@@ -114,12 +107,9 @@ module _ (a : Arbitration) (numbered : Numbered a) (p : ℕ) (best : Highest a p
   unfolding shown Final FinalAt
   shown-final j levels f =
       or-below-agree j (λ q. cond (a .contends q) (getD levels q 0) 0) (λ q. cond (a .contends q) (finalLevel q) 0) (a .places)
-      (λ q h. each q h (a .contends q) refl)
+      (λ q h.
+      by-contending a (λ (b : Bool). cond b (getD levels q 0) 0 / 2 ^ j ≡ cond b (finalLevel q) 0 / 2 ^ j) q h (f q) refl)
       ∙ ap (λ (x : ℕ). x / 2 ^ j) final-shown
-    where
-      each : (q : ℕ) → q < a .places → (b : Bool) → a .contends q ≡ b → cond b (getD levels q 0) 0 / 2 ^ j ≡ cond b (finalLevel q) 0 / 2 ^ j
-      each q h true e = f q record { present = h; contending = e }
-      each q h false e = refl
 
   -- what a look drives is final one place further down
   looked-final : (j : ℕ) (levels : List ℕ) → j < a .width → Final (suc j) levels → (q : ℕ) → looked a levels q / 2 ^ j ≡ finalLevel q / 2 ^ j
@@ -129,7 +119,7 @@ module _ (a : Arbitration) (numbered : Numbered a) (p : ℕ) (best : Highest a p
   -- above the highest place there is nothing, so any level is final there
   start : (levels : List ℕ) (q : ℕ) → getD levels q 0 < 2 ^ a .width → FinalAt (a .width) levels q
   unfolding FinalAt finalLevel
-  start levels q below = div-eq-of-lt below ∙ sym (div-eq-of-lt (look-lt (a .width) (a .number q) m))
+  start levels q below = div-eq-of-lt below ∙ sym (div-eq-of-lt (look-in-range (a .width) (a .number q) m))
 
   -- and where all places are final the lines are settled at m
   end : (levels : List ℕ) → Final 0 levels → SettledAt a levels m
@@ -180,7 +170,7 @@ module _ (a : Arbitration) (numbered : Numbered a) (p : ℕ) (best : Highest a p
   rounds-final (looks ∷ rounds) j levels r h e f =
       subst (Final j) (sym (after-append a levels looks (flatten rounds)))
       (rounds-final rounds j (afterLooks a levels looks) (levels-in-range a levels r looks) (omega arith) (each .1)
-      (λ q k. looks-final (length rounds + j) (omega arith) looks levels (r .size) before q k (inr (looks-once q k))))
+      (λ q k. looks-final (length rounds + j) (omega arith) looks levels (r .size) before q k (inr (every-contender a _ .0 (each .0) q k))))
     where
       each : (isRound a looks ≡ true) × (areRounds a rounds ≡ true)
       each = and-eq-true-iff (isRound a looks) (areRounds a rounds) .0 e
@@ -188,15 +178,12 @@ module _ (a : Arbitration) (numbered : Numbered a) (p : ℕ) (best : Highest a p
       before : Final (suc (length rounds + j)) levels
       before = subst (λ (x : ℕ). Final x levels) (suc-add (length rounds) j) f
 
-      looks-once : (q : ℕ) → Contender a q → isAmong q looks ≡ true
-      looks-once q k = then-of (a .contends q) (isAmong q looks) (all-at _ (a .places) (each .0) q (k .present)) (k .contending)
-
   -- settled levels are final at every place, from the highest down
   settled-final : (levels : List ℕ) → settled a levels ≡ true → (i j : ℕ) → i + j ≡ a .width → Final j levels
   unfolding Final FinalAt looked
   settled-final levels e zero j h q k =
       subst (λ (v : ℕ). FinalAt v levels q) (sym h ∙ zero-add j)
-      (start levels q (subst (λ (x : ℕ). x < 2 ^ a .width) (settled-at a levels e q k) (look-lt (a .width) (a .number q) (shown a levels))))
+      (start levels q (subst (λ (x : ℕ). x < 2 ^ a .width) (settled-at a levels e q k) (looked-in-range a levels q)))
   settled-final levels e (suc i) j h q k =
       ap (λ (x : ℕ). x / 2 ^ j) (sym (settled-at a levels e q k))
       ∙ looked-final j levels (omega arith) (settled-final levels e i (suc j) (omega arith)) q
@@ -205,7 +192,7 @@ module _ (a : Arbitration) (numbered : Numbered a) (p : ℕ) (best : Highest a p
 
 pub rounds-settle : RoundsSettle
 unfolding Final
-rounds-settle a numbered p best levels r rounds count all after =
+rounds-settle a fit p best levels r rounds count all after =
     subst (λ (x : List ℕ). SettledAt a x (a .number p)) (sym (after-append a levels (flatten rounds) after ∙ rest)) final
   where
     -- the rounds are as many as the lines: no place is left out
@@ -214,14 +201,14 @@ rounds-settle a numbered p best levels r rounds count all after =
 
     final : SettledAt a (afterLooks a levels (flatten rounds)) (a .number p)
     final =
-        end a numbered p best (afterLooks a levels (flatten rounds))
-        (rounds-final a numbered p best rounds 0 levels r (omega arith) all (λ q k.
-        subst (λ (j : ℕ). FinalAt a numbered p best j levels q) everyPlace (start a numbered p best levels q (r .below q k))))
+        end a fit p best (afterLooks a levels (flatten rounds))
+        (rounds-final a fit p best rounds 0 levels r (omega arith) all (λ q k.
+        subst (λ (j : ℕ). FinalAt a fit p best j levels q) everyPlace (start a fit p best levels q (r .below q k))))
 
     rest : afterLooks a (afterLooks a levels (flatten rounds)) after ≡ afterLooks a levels (flatten rounds)
     rest = settled-stays a (afterLooks a levels (flatten rounds)) (levels-in-range a levels r (flatten rounds) .size) (final .still) after
 
 pub settled-show-highest : SettledShowHighest
 unfolding Final
-settled-show-highest a numbered p best levels e =
-    end a numbered p best levels (settled-final a numbered p best levels e (a .width) 0 (add-zero (a .width))) .shows
+settled-show-highest a fit p best levels e =
+    end a fit p best levels (settled-final a fit p best levels e (a .width) 0 (add-zero (a .width))) .shows

@@ -1,5 +1,5 @@
--- One arbitration: who takes part, what the lines show, looks and rounds of looks, and when the lines are settled (000, 2.8.3; 01, "Looking
--- and settling"). What the cards drive is a list of levels, with each card's level at the card's place.
+-- One arbitration: who contends, what the lines show, looks and rounds of looks, and when the lines are settled (000, 2.8.3; 01, "Looking and
+-- settling"). What the cards drive is a list of levels, with each card's level at the card's place.
 use Prim.Native.Nat.{ℕ, _^_, _<_, _≤_}
 use mathlib.Core.Path.{_≡_}
 use mathlib.Core.Bool.{Bool, true, cond, not, _&&_, _||_}
@@ -9,6 +9,8 @@ use lib.ListN.{length, getD, set}
 use Rattle.words.specs.Below.{allBelow, orBelow}
 use Rattle.words.specs.Among.{isAmong}
 use Rattle.lines.specs.Look.{look}
+
+-- ---- Who contends
 
 -- What stays as it is during one arbitration.
 pub record Arbitration : Type 0 where
@@ -25,19 +27,29 @@ pub record Arbitration : Type 0 where
 abbrev pub byNumber : ℕ → (ℕ → Bool) → Arbitration
 byNumber w contends = record { width = w; places = 2 ^ w; number = λ n. n; contends = contends }
 
--- the contenders alone, given as the list of their numbers
+-- this bus: four lines, up to sixteen cards (000, 2.2.7.1 and 2.8.3)
+abbrev pub fourLines : (ℕ → Bool) → Arbitration
+fourLines contends = byNumber 4 contends
+
+-- the contenders alone, given as the list of their numbers; levels and looks go by the position in this list
 abbrev pub listed : ℕ → List ℕ → Arbitration
 listed w numbers = record { width = w; places = length numbers; number = λ q. getD numbers q 0; contends = λ q. true }
 
--- the card at place q takes part
+-- the card at place q contends
 pub record Contender (a : Arbitration) (q : ℕ) : Type 0 where
   pub present : q < a .places
   pub contending : a .contends q ≡ true
 
--- the card at place p takes part, and no card that does has a higher number
+-- the card at place p contends, and no contender has a higher number
 pub record Highest (a : Arbitration) (p : ℕ) : Type 0 where
   pub contender : Contender a p
   pub top : (q : ℕ) → Contender a q → a .number q ≤ a .number p
+
+-- the test holds of every contender
+unfoldable pub everyContender : Arbitration → (ℕ → Bool) → Bool
+everyContender a test = allBelow (λ q. not (a .contends q) || test q) (a .places)
+
+-- ---- The lines, and looks at them
 
 -- the lines show, bit by bit, the OR of what the contenders drive
 unfoldable pub shown : Arbitration → List ℕ → ℕ
@@ -49,9 +61,9 @@ looked a levels q = look (a .width) (a .number q) (shown a levels)
 
 -- the lines are settled: no contender's look would change what it drives
 unfoldable pub settled : Arbitration → List ℕ → Bool
-settled a levels = allBelow (λ q. not (a .contends q) || eqb (looked a levels q) (getD levels q 0)) (a .places)
+settled a levels = everyContender a (λ q. eqb (looked a levels q) (getD levels q 0))
 
--- the levels after a look of the card at place q; only a contender's look changes anything
+-- the levels after a look of the card at place q; the look of a card that doesn't contend changes none
 unfoldable pub afterLook : Arbitration → List ℕ → ℕ → List ℕ
 afterLook a levels q = cond (a .contends q) (set levels q (looked a levels q)) levels
 
@@ -62,9 +74,9 @@ afterLooks a levels (q ∷ looks) = afterLooks a (afterLook a levels q) looks
 
 -- a round: looks among which each contender has at least one, in any order, with any others before, between and after
 unfoldable pub isRound : Arbitration → List ℕ → Bool
-isRound a looks = allBelow (λ q. not (a .contends q) || isAmong q looks) (a .places)
+isRound a looks = everyContender a (λ q. isAmong q looks)
 
--- each of the lists of looks is a round
+-- each of these lists of looks is a round
 unfoldable pub areRounds : Arbitration → List (List ℕ) → Bool
 areRounds a [] = true
 areRounds a (looks ∷ rounds) = isRound a looks && areRounds a rounds

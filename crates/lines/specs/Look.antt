@@ -1,10 +1,10 @@
--- What a card drives on the priority lines once it has looked at them (000, 2.4.3.1 and 2.8.3; 01, "Looking and settling").
+-- What a card drives on the priority lines once it has looked at them (000, 2.4.3.1 and 2.8.4, rule 6; 01, "Looking and settling").
 use Prim.Native.Nat.{ℕ, zero, suc, _+_, _^_}
 use mathlib.Core.Bool.{cond}
 use Rattle.words.specs.Bits.{bitAt}
 
--- `look w number lines`: over the w places from the highest down, the card drives each one of its number; but at the first place where
--- the lines show 1 and its number has 0 it stops, and drives nothing below.
+-- `look w number lines`: going down from the highest of the w places, the card drives each place where its number has a one; but at the
+-- first place where the lines show 1 and its number has 0 it stops, and drives nothing below.
 unfoldable pub look : ℕ → ℕ → ℕ → ℕ
 look zero number lines = 0
 look (suc k) number lines =

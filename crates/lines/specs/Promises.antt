@@ -1,43 +1,70 @@
--- What is promised of the priority lines, stated once for any number w of lines. The proof of each stands in proofs/ under the same name.
-use Prim.Native.Nat.{ℕ, _^_, _<_}
+-- What is promised of the priority lines: once for any number w of lines, and then for the four of this bus. The proof of each stands in proofs/
+-- under its name in small letters: that of RoundsSettle is rounds-settle.
+use Prim.Native.Nat.{ℕ, _^_, _<_, _≤_}
 use mathlib.Core.Path.{_≡_}
-use mathlib.Core.Bool.{Bool, true, false}
-use mathlib.Core.List.{List, _++_, flatten}
+use mathlib.Core.Logic.{_↔_}
+use mathlib.Core.Bool.{Bool, true, false, not, _&&_, _||_}
+use mathlib.Core.List.{List, [], _∷_, _++_, flatten}
+use lib.Dec.{leb}
 use lib.ListN.{length, getD}
+use Rattle.words.specs.Bits.{bitAt}
+use Rattle.words.specs.Below.{allBelow}
+use Rattle.lines.specs.Look.{look}
 use Rattle.lines.specs.Arbitration.{
   Arbitration,
   byNumber,
+  fourLines,
   listed,
   Contender,
   Highest,
+  everyContender,
   shown,
   settled,
   afterLooks,
+  isRound,
   areRounds,
 }
+
+-- ---- What the definitions mean
+
+-- A look, place by place: place k is driven exactly if the number has a one there and, at every place above k, has a one or sees none.
+abbrev pub LookByPlace : Type 0
+LookByPlace =
+    (w number lines k : ℕ) → k < w
+    → bitAt (look w number lines) k ≡ (bitAt number k && allBelow (λ i. leb i k || (bitAt number i || not (bitAt lines i))) w)
+
+-- And it drives nothing beyond the w places.
+abbrev pub LookInRange : Type 0
+LookInRange = (w number lines : ℕ) → look w number lines < 2 ^ w
+
+-- What is asked of every contender, in settled and in a round, is asked of each of them and of nobody else.
+abbrev pub EveryContender : Type 0
+EveryContender = (a : Arbitration) (test : ℕ → Bool) → (everyContender a test ≡ true) ↔ ((q : ℕ) → Contender a q → test q ≡ true)
 
 -- ---- What is asked of an arbitration and of the levels
 
 -- the contenders' numbers are below 2 to the power w
-abbrev pub Numbered : Arbitration → Type 0
-Numbered a = (q : ℕ) → Contender a q → a .number q < 2 ^ a .width
+abbrev pub NumbersFit : Arbitration → Type 0
+NumbersFit a = (q : ℕ) → Contender a q → a .number q < 2 ^ a .width
 
 -- no two contenders have the same number
 abbrev pub Distinct : Arbitration → Type 0
 Distinct a = (q r : ℕ) → Contender a q → Contender a r → a .number q ≡ a .number r → q ≡ r
 
--- there is a level for each place, and each contender's is below 2 to the power w; beyond that they are any levels
+-- there is a level for each place, and each contender's is below 2 to the power w; otherwise they are free
 pub record InRange (a : Arbitration) (levels : List ℕ) : Type 0 where
   pub size : length levels ≡ a .places
   pub below : (q : ℕ) → Contender a q → getD levels q 0 < 2 ^ a .width
 
 -- ---- The highest contender
 
+-- Where anyone contends there is a highest contender;
 abbrev pub HighestExists : Type 0
 HighestExists = (a : Arbitration) (q : ℕ) → Contender a q → (p : ℕ) × Highest a p
 
-abbrev pub HighestOnce : Type 0
-HighestOnce = (a : Arbitration) → Distinct a → (p q : ℕ) → Highest a p → Highest a q → p ≡ q
+-- where numbers are distinct, no second.
+abbrev pub HighestUnique : Type 0
+HighestUnique = (a : Arbitration) → Distinct a → (p q : ℕ) → Highest a p → Highest a q → p ≡ q
 
 -- ---- Settling
 
@@ -46,14 +73,14 @@ pub record SettledAt (a : Arbitration) (levels : List ℕ) (m : ℕ) : Type 0 wh
   pub shows : shown a levels ≡ m
   pub still : settled a levels ≡ true
 
--- As many rounds as there are lines, with any looks after them, leave the lines settled at the highest contender's number.
+-- As many rounds as there are lines leave the lines settled at the highest contender's number, and so do any looks after them.
 abbrev pub RoundsSettle : Type 0
 RoundsSettle =
-    (a : Arbitration) → Numbered a → (p : ℕ) → Highest a p → (levels : List ℕ) → InRange a levels
+    (a : Arbitration) → NumbersFit a → (p : ℕ) → Highest a p → (levels : List ℕ) → InRange a levels
     → (rounds : List (List ℕ)) → length rounds ≡ a .width → areRounds a rounds ≡ true → (after : List ℕ)
     → SettledAt a (afterLooks a levels (flatten rounds ++ after)) (a .number p)
 
--- Where the lines are settled, looks change no level any more.
+-- Where the lines are settled, looks no longer change any level.
 abbrev pub SettledStays : Type 0
 SettledStays =
     (a : Arbitration) (levels : List ℕ) → length levels ≡ a .places → settled a levels ≡ true
@@ -64,33 +91,35 @@ SettledStays =
 -- Settled lines show the highest contender's number.
 abbrev pub SettledShowHighest : Type 0
 SettledShowHighest =
-    (a : Arbitration) → Numbered a → (p : ℕ) → Highest a p → (levels : List ℕ) → settled a levels ≡ true
+    (a : Arbitration) → NumbersFit a → (p : ℕ) → Highest a p → (levels : List ℕ) → settled a levels ≡ true
     → shown a levels ≡ a .number p
 
--- Settled lines of card 0 alone show 0: nothing on the lines does not mean that nobody contends.
+-- With card 0 as the only contender they show 0: nothing on the lines does not mean that nobody contends.
 abbrev pub CardZeroAlone : Type 0
 CardZeroAlone =
-    (w : ℕ) (contends : ℕ → Bool) → contends 0 ≡ true → ((q : ℕ) → contends q ≡ true → q ≡ 0)
+    (w : ℕ) (contends : ℕ → Bool) → contends 0 ≡ true → ((q : ℕ) → Contender (byNumber w contends) q → q ≡ 0)
     → (levels : List ℕ) → settled (byNumber w contends) levels ≡ true → shown (byNumber w contends) levels ≡ 0
 
--- There is one level for each contender at which the lines are settled;
-abbrev pub SettledOnce : Type 0
-SettledOnce =
-    (a : Arbitration) → Numbered a → (l m : List ℕ) → settled a l ≡ true → settled a m ≡ true
+-- Each contender has at most one level at which the lines can be settled.
+abbrev pub SettledLevelUnique : Type 0
+SettledLevelUnique =
+    (a : Arbitration) → NumbersFit a → (l m : List ℕ) → settled a l ≡ true → settled a m ≡ true
     → (q : ℕ) → Contender a q → getD l q 0 ≡ getD m q 0
 
--- so, where the idle cards drive the same, one list of levels.
-abbrev pub SettledLevelsOnce : Type 0
-SettledLevelsOnce =
-    (a : Arbitration) → Numbered a → (l m : List ℕ) → length l ≡ a .places → length m ≡ a .places
+-- So two settled lists in which the idle cards drive the same are the same list.
+abbrev pub SettledListUnique : Type 0
+SettledListUnique =
+    (a : Arbitration) → NumbersFit a → (l m : List ℕ) → length l ≡ a .places → length m ≡ a .places
     → ((q : ℕ) → a .contends q ≡ false → getD l q 0 ≡ getD m q 0)
     → settled a l ≡ true → settled a m ≡ true → l ≡ m
 
 -- ---- Bounds
 
+-- Looks keep every contender's level below 2 to the power w,
 abbrev pub LevelsInRange : Type 0
 LevelsInRange = (a : Arbitration) (levels : List ℕ) → InRange a levels → (looks : List ℕ) → InRange a (afterLooks a levels looks)
 
+-- and then the lines are below it too.
 abbrev pub LinesInRange : Type 0
 LinesInRange = (a : Arbitration) (levels : List ℕ) → InRange a levels → shown a levels < 2 ^ a .width
 
@@ -100,7 +129,16 @@ pub record DistinctBelow (w : ℕ) (numbers : List ℕ) : Type 0 where
   pub below : (q : ℕ) → q < length numbers → getD numbers q 0 < 2 ^ w
   pub distinct : (q r : ℕ) → q < length numbers → r < length numbers → getD numbers q 0 ≡ getD numbers r 0 → q ≡ r
 
--- w rounds settle the lines at the highest number, and one of the list alone has it
+-- Where the list has anyone, one position has the highest number,
+abbrev pub ListedHighestExists : Type 0
+ListedHighestExists = (w number : ℕ) (others : List ℕ) → (p : ℕ) × Highest (listed w (number ∷ others)) p
+
+-- and no second.
+abbrev pub ListedHighestUnique : Type 0
+ListedHighestUnique =
+    (w : ℕ) (numbers : List ℕ) → DistinctBelow w numbers → (p q : ℕ) → Highest (listed w numbers) p → Highest (listed w numbers) q → p ≡ q
+
+-- w rounds leave the lines settled at the highest number, which one position alone has.
 abbrev pub ListedRoundsSettle : Type 0
 ListedRoundsSettle =
     (w : ℕ) (numbers : List ℕ) → DistinctBelow w numbers → (p : ℕ) → Highest (listed w numbers) p
@@ -109,17 +147,29 @@ ListedRoundsSettle =
     → SettledAt (listed w numbers) (afterLooks (listed w numbers) levels (flatten rounds ++ after)) (getD numbers p 0)
     × ((q : ℕ) → q < length numbers → getD numbers q 0 ≡ getD numbers p 0 → q ≡ p)
 
--- one list of levels is settled, and its lines show the highest number
-abbrev pub ListedSettledOnce : Type 0
-ListedSettledOnce =
-    (w : ℕ) (numbers : List ℕ) → DistinctBelow w numbers → (l m : List ℕ) → length l ≡ length numbers → length m ≡ length numbers
-    → settled (listed w numbers) l ≡ true → settled (listed w numbers) m ≡ true → l ≡ m
-
+-- Settled lines show the highest number.
 abbrev pub ListedShowHighest : Type 0
 ListedShowHighest =
     (w : ℕ) (numbers : List ℕ) → DistinctBelow w numbers → (p : ℕ) → Highest (listed w numbers) p
     → (levels : List ℕ) → settled (listed w numbers) levels ≡ true → shown (listed w numbers) levels ≡ getD numbers p 0
 
-abbrev pub ListedHighestOnce : Type 0
-ListedHighestOnce =
-    (w : ℕ) (numbers : List ℕ) → DistinctBelow w numbers → (p q : ℕ) → Highest (listed w numbers) p → Highest (listed w numbers) q → p ≡ q
+-- At most one list of levels is settled.
+abbrev pub ListedSettledUnique : Type 0
+ListedSettledUnique =
+    (w : ℕ) (numbers : List ℕ) → DistinctBelow w numbers → (l m : List ℕ) → length l ≡ length numbers → length m ≡ length numbers
+    → settled (listed w numbers) l ≡ true → settled (listed w numbers) m ≡ true → l ≡ m
+
+-- ---- The four lines of this bus, with the levels of its sixteen cards
+
+-- Four rounds settle them at the highest contender, from any levels that four lines can hold.
+abbrev pub FourRoundsSettle : Type 0
+FourRoundsSettle =
+    (contends : ℕ → Bool) (m : ℕ) → Highest (fourLines contends) m
+    → (levels : List ℕ) → length levels ≡ 16 → ((q : ℕ) → q < 16 → contends q ≡ true → getD levels q 0 ≤ 15)
+    → (r₁ r₂ r₃ r₄ : List ℕ) → isRound (fourLines contends) r₁ ≡ true → isRound (fourLines contends) r₂ ≡ true
+    → isRound (fourLines contends) r₃ ≡ true → isRound (fourLines contends) r₄ ≡ true → (after : List ℕ)
+    → SettledAt (fourLines contends) (afterLooks (fourLines contends) levels (flatten (r₁ ∷ r₂ ∷ r₃ ∷ r₄ ∷ []) ++ after)) m
+
+-- There is one highest contender at most, since a card's place is its number.
+abbrev pub FourHighestUnique : Type 0
+FourHighestUnique = (contends : ℕ → Bool) (p q : ℕ) → Highest (fourLines contends) p → Highest (fourLines contends) q → p ≡ q

@@ -1,7 +1,7 @@
 -- The laws of `allBelow` and `orBelow`: one entry out of all, all from each, and what the OR of many numbers is.
 use mathlib.Core.Path.{_≡_, refl, sym, ap, ap₂, _∙_}
-use mathlib.Core.Logic.{_⊎_, inl, inr, ⊎-elim}
-use mathlib.Core.Bool.{Bool, true, false, _&&_, and-eq-true-iff}
+use mathlib.Core.Logic.{_⊎_, ⊎-elim}
+use mathlib.Core.Bool.{Bool, true, and-eq-true-iff}
 use Prim.Native.Nat.{ℕ, zero, suc, _/_, _^_, _<_}
 use native.Mathlib.Nat.{not-suc-le-zero, le-of-suc-le-suc, eq-or-lt-of-le, le-step, lt-suc-self}
 use lib.Pow.{pow-pos}
@@ -34,7 +34,7 @@ or-below-lt w f zero each = pow-pos w
 or-below-lt w f (suc n) each =
     or-lt w (orBelow f n) (f n) (or-below-lt w f n (λ k h. each k (le-step h))) (each n (lt-suc-self n))
 
--- numbers that agree above place j, one by one, have ORs that agree there
+-- numbers that agree from place j up, one by one, have ORs that agree there
 pub or-below-agree : (j : ℕ) (f g : ℕ → ℕ) (n : ℕ) → ((k : ℕ) → k < n → f k / 2 ^ j ≡ g k / 2 ^ j) → orBelow f n / 2 ^ j ≡ orBelow g n / 2 ^ j
 unfolding orBelow
 or-below-agree j f g zero each = refl

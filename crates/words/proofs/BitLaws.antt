@@ -1,18 +1,18 @@
--- The laws of `bitAt`, and of the OR of numbers, that the library lacks.
-use mathlib.Core.Path.{_≡_, refl, sym, ap, ap₂, _∙_, subst}
+-- The laws of `bitAt`, and of the OR of two numbers, that the library lacks. What a number has from place j up is its quotient by 2 to the power j.
+use mathlib.Core.Path.{_≡_, refl, sym, ap, ap₂, _∙_}
 use mathlib.Core.Bool.{Bool, true, false, cond}
-use Prim.Native.Nat.{ℕ, zero, suc, _+_, _*_, _/_, _%_, _^_, _<_, _≤_, max}
-use native.Mathlib.Nat.{mod-lt, add-suc, zero-lt-suc, add-comm}
+use Prim.Native.Nat.{ℕ, suc, _+_, _*_, _/_, _%_, _^_, _<_, max}
+use native.Mathlib.Nat.{le-dest, mul-add-div, div-eq-of-lt, one-mul}
 use native.Mathlib.Numerals.{add-one, one-add}
 use native.Mathlib.Omega.{arith}
 use lib.Dec.{eqb}
-use lib.Arith.{bin-ind, digits-div, digits-mod}
+use lib.Arith.{bin-ind, digits-mod}
 use lib.Bits.{bitOr, or-step, or-shr}
-use lib.Pow.{shr-shr, mod-pow-add}
+use lib.Pow.{pow-pos, pow-add, shr-shr, mod-pow-add, high}
 use borrow.Author.Tests.{eqb-true, eqb-false}
 use Rattle.words.specs.Bits.{bitAt}
 
--- the place i of what is left of n after j places is n's place j + i
+-- place i of what n has from place j up is n's place j + i
 pub bit-high : (n j i : ℕ) → bitAt (n / 2 ^ j) i ≡ bitAt n (j + i)
 bit-high n j i = ap (λ (x : ℕ). eqb (x % 2) 1) (shr-shr n j i)
 
@@ -22,7 +22,7 @@ bit-half n i = bit-high n 1 i ∙ ap (bitAt n) (one-add i)
 pub shr-suc : (n j : ℕ) → n / 2 ^ j / 2 ≡ n / 2 ^ suc j
 shr-suc n j = shr-shr n j 1 ∙ ap (λ (x : ℕ). n / 2 ^ x) (add-one j)
 
--- what agrees above place j agrees above the next place too
+-- what agrees from place j up agrees from the next place up too
 pub agree-suc : (j a b : ℕ) → a / 2 ^ j ≡ b / 2 ^ j → a / 2 ^ suc j ≡ b / 2 ^ suc j
 agree-suc j a b e = sym (shr-suc a j) ∙ ap (λ (x : ℕ). x / 2) e ∙ shr-suc b j
 
@@ -36,13 +36,31 @@ low-suc n k = ap (λ (x : ℕ). n % 2 ^ x) (sym (one-add k)) ∙ mod-pow-add n 1
         let z : n / 2 ^ k % 2 ≡ 0 = omega (arith, eqb-false (n / 2 ^ k % 2) 1 e) in
         rw z (omega arith)
 
+-- ---- A number of w places has no one from place w up, and a one put on top of it is its only one there.
+
+pub bit-above : (w x : ℕ) → x < 2 ^ w → bitAt x w ≡ false
+bit-above w x h = ap (λ (y : ℕ). eqb (y % 2) 1) (div-eq-of-lt h)
+
+pub bit-top : (w x : ℕ) → x < 2 ^ w → bitAt (2 ^ w + x) w ≡ true
+bit-top w x h = ap (λ (y : ℕ). eqb (y % 2) 1) (ap (λ (y : ℕ). (y + x) / 2 ^ w) (sym (one-mul (2 ^ w))) ∙ high 1 w h)
+
+pub bit-below-top : (w k x : ℕ) → k < w → bitAt (2 ^ w + x) k ≡ bitAt x k
+bit-below-top w k x h =
+    let i = le-dest h in
+    let exponent : w ≡ k + suc (i .0) = omega (arith, i .1) in
+    let quotient : (2 ^ w + x) / 2 ^ k ≡ 2 ^ suc (i .0) + x / 2 ^ k
+    = ap (λ (y : ℕ). (y + x) / 2 ^ k) (ap (λ (v : ℕ). 2 ^ v) exponent ∙ pow-add 2 k (suc (i .0))) ∙ mul-add-div (pow-pos k) (2 ^ suc (i .0)) x in
+    let odd : (2 ^ w + x) / 2 ^ k % 2 ≡ x / 2 ^ k % 2 = omega (arith, quotient) in
+    ap (λ (y : ℕ). eqb y 1) odd
+
+-- ---- OR
+
 -- the lowest place of an OR
 or-odd : (a b : ℕ) → bitOr a b % 2 ≡ max (a % 2) (b % 2)
 or-odd a b =
     ap (λ (x : ℕ). x % 2) (or-step a b)
     ∙ digits-mod (bitOr (a / 2) (b / 2)) {m = 2} {r = max (a % 2) (b % 2)} (omega arith)
 
--- OR asks for no brackets
 pub bitOr-assoc : (a b c : ℕ) → bitOr (bitOr a b) c ≡ bitOr a (bitOr b c)
 bitOr-assoc a =
     bin-ind

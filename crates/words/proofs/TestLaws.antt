@@ -1,12 +1,12 @@
--- What a test that came out true says of its parts, and what makes one come out true.
+-- What a test that came out true says of its parts, what makes one come out true, and picking by tests.
 use mathlib.Core.Path.{_≡_, refl, sym}
 use mathlib.Core.Logic.{_⊎_, inl, inr}
 use mathlib.Core.Bool.{Bool, true, false, not, cond, _||_, true≢false}
 
--- a test is true or false, with the equation in hand
-pub known : (b : Bool) → (b ≡ true) ⊎ (b ≡ false)
-known true = inl refl
-known false = inr refl
+-- a test came out one way or the other, with the equation in hand
+pub true-or-false : (b : Bool) → (b ≡ true) ⊎ (b ≡ false)
+true-or-false true = inl refl
+true-or-false false = inr refl
 
 -- a disjunction that holds: one of its sides does
 pub either-of : (a b : Bool) → (a || b) ≡ true → (a ≡ true) ⊎ (b ≡ true)
@@ -22,7 +22,11 @@ pub of-then : (a b : Bool) → (a ≡ true → b ≡ true) → (not a || b) ≡ 
 of-then true b h = h refl
 of-then false b h = refl
 
--- a test that has failed is not asked again
+-- a test that failed once fails again
 pub cond-again : (b : Bool) {A : Type 0} (x y z : A) → cond b x (cond b y z) ≡ cond b x z
 cond-again true x y z = refl
 cond-again false x y z = refl
+
+pub cond-same : (b : Bool) {A : Type 0} (x : A) → cond b x x ≡ x
+cond-same true x = refl
+cond-same false x = refl

@@ -1,4 +1,4 @@
--- What is asked or gathered of every number below a bound, in ascending order: the entries of a table, the cards of a chassis.
+-- What is asked of, or gathered from, every number below a bound, in ascending order.
 use Prim.Native.Nat.{ℕ, zero, suc}
 use mathlib.Core.Bool.{Bool, true, _&&_}
 use lib.Bits.{bitOr}
