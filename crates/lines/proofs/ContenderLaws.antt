@@ -4,8 +4,8 @@ use mathlib.Core.Bool.{Bool, true, false}
 use Prim.Native.Nat.{ℕ, _<_}
 use Rattle.words.proofs.TestLaws.{then-of, of-then}
 use Rattle.words.proofs.BelowLaws.{all-at, all-of}
-use Rattle.lines.specs.Arbitration.{Arbitration, byNumber, Contender, everyContender}
-use Rattle.lines.specs.Promises.{EveryContender, NumbersFit, Distinct}
+use Rattle.lines.specs.Arbitration.{Arbitration, Contender, everyContender}
+use Rattle.lines.specs.Promises.{EveryContender}
 
 pub every-contender : EveryContender
 unfolding everyContender
@@ -22,10 +22,3 @@ by-contending a P q h contender idle = go (a .contends q) refl
     go : (b : Bool) → a .contends q ≡ b → P b
     go true e = contender record { present = h; contending = e }
     go false e = idle
-
--- where the place of a card is its number, every number fits the lines and no two are the same
-pub by-number-fit : (w : ℕ) (contends : ℕ → Bool) → NumbersFit (byNumber w contends)
-by-number-fit w contends q k = k .present
-
-pub by-number-distinct : (w : ℕ) (contends : ℕ → Bool) → Distinct (byNumber w contends)
-by-number-distinct w contends q r kq kr e = e

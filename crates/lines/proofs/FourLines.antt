@@ -4,8 +4,8 @@ use mathlib.Core.List.{[], _∷_}
 use Prim.Native.Nat.{suc-le-suc}
 use Rattle.lines.specs.Arbitration.{fourLines, areRounds}
 use Rattle.lines.specs.Promises.{FourRoundsSettle, FourHighestUnique}
-use Rattle.lines.proofs.ContenderLaws.{by-number-fit, by-number-distinct}
 use Rattle.lines.proofs.HighestLaws.{highest-unique}
+use Rattle.lines.proofs.NumberedCards.{by-number-fit, by-number-distinct}
 use Rattle.lines.proofs.Settling.{rounds-settle}
 
 pub four-rounds-settle : FourRoundsSettle

@@ -7,4 +7,5 @@ pub mod HighestLaws
 pub mod Settling
 pub mod Unique
 pub mod Listed
+pub mod NumberedCards
 pub mod FourLines

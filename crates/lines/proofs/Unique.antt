@@ -4,16 +4,13 @@ use mathlib.Core.Logic.{_⊎_, inl, inr}
 use mathlib.Core.Bool.{true, false}
 use mathlib.Core.List.{List}
 use Prim.Native.Nat.{ℕ, _<_}
-use native.Mathlib.Nat.{le-of-eq}
 use native.Mathlib.Omega.{arith}
 use lib.ListN.{length, getD}
 use lib.Seq.{ext-getD}
-use lib.Pow.{pow-pos}
 use Rattle.words.proofs.TestLaws.{true-or-false}
 use Rattle.lines.specs.Look.{look}
-use Rattle.lines.specs.Arbitration.{byNumber, shown, looked, settled}
-use Rattle.lines.specs.Promises.{SettledLevelUnique, SettledListUnique, CardZeroAlone}
-use Rattle.lines.proofs.ContenderLaws.{by-number-fit}
+use Rattle.lines.specs.Arbitration.{shown, looked, settled}
+use Rattle.lines.specs.Promises.{SettledLevelUnique, SettledListUnique}
 use Rattle.lines.proofs.HighestLaws.{highest-exists}
 use Rattle.lines.proofs.Settling.{settled-at, settled-show-highest}
 
@@ -32,10 +29,3 @@ settled-list-unique a fit l m sl sm idle el em = ext-getD 0 l m (sl ∙ sym sm) 
     go : (q : ℕ) → q < length l → (a .contends q ≡ true) ⊎ (a .contends q ≡ false) → getD l q 0 ≡ getD m q 0
     go q h (inl t) = settled-level-unique a fit l m el em q record { present = omega arith; contending = t }
     go q h (inr f) = idle q f
-
-pub card-zero-alone : CardZeroAlone
-card-zero-alone w contends zero-contends alone =
-    settled-show-highest (byNumber w contends) (by-number-fit w contends) 0 record {
-      contender = record { present = pow-pos w; contending = zero-contends };
-      top = λ q k. le-of-eq (alone q k);
-    }
