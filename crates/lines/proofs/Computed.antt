@@ -9,17 +9,8 @@ use borrow.Author.Tests.{leb-true}
 use Rattle.words.specs.Below.{allBelow, orBelow}
 use Rattle.words.specs.Among.{isAmong}
 use Rattle.lines.specs.Look.{look}
-use Rattle.lines.specs.Arbitration.{
-  Highest,
-  everyContender,
-  shown,
-  looked,
-  settled,
-  afterLook,
-  afterLooks,
-  isRound,
-  areRounds,
-}
+use Rattle.lines.specs.Arbitration.{Highest, everyContender, isRound, areRounds}
+use Rattle.lines.specs.Arbitration.{shown, looked, settled, afterLook, afterLooks}
 use Rattle.lines.specs.Promises.{InRange}
 use Rattle.lines.specs.Examples.{fourNineTen, silent, threeListed, ThreeRoundsFallShort, ThreeListed, LoneCard}
 use Rattle.lines.proofs.ContenderLaws.{every-contender}
@@ -65,9 +56,11 @@ three-listed = record {
 pub lone-card : LoneCard
 unfolding everyContender shown looked settled afterLook afterLooks allBelow orBelow look
 lone-card = record {
+  cardZero = record { shows = refl; still = refl };
   whole = record { shows = refl; still = refl };
   strayOnce = refl;
   strayTwice = record { shows = refl; still = refl };
   idle = record { shows = refl; still = refl };
+  idleLooks = refl;
   idleLoses = λ best. false≢true (best .contender .contending);
 }

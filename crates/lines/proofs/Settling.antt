@@ -20,18 +20,8 @@ use Rattle.words.proofs.BitLaws.{agree-suc}
 use Rattle.words.proofs.BelowLaws.{or-below-agree, or-below-top}
 use Rattle.words.proofs.ListLaws.{among-none, among-cases}
 use Rattle.lines.specs.Look.{look}
-use Rattle.lines.specs.Arbitration.{
-  Arbitration,
-  Contender,
-  Highest,
-  shown,
-  looked,
-  settled,
-  afterLook,
-  afterLooks,
-  isRound,
-  areRounds,
-}
+use Rattle.lines.specs.Arbitration.{Arbitration, Contender, Highest, isRound, areRounds}
+use Rattle.lines.specs.Arbitration.{shown, looked, settled, afterLook, afterLooks}
 use Rattle.lines.specs.Promises.{NumbersFit, InRange, SettledAt, RoundsSettle, SettledStays, SettledShowHighest}
 use Rattle.lines.proofs.LookLaws.{look-in-range, look-own, look-within, look-causal}
 use Rattle.lines.proofs.ContenderLaws.{every-contender, by-contending}

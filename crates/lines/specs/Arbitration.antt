@@ -51,15 +51,15 @@ everyContender a test = allBelow (λ q. not (a .contends q) || test q) (a .place
 
 -- ---- The lines, and looks at them
 
--- the lines show, bit by bit, the OR of what the contenders drive
+-- what the lines show: a place is 1 where some contender drives it
 unfoldable pub shown : Arbitration → List ℕ → ℕ
 shown a levels = orBelow (λ q. cond (a .contends q) (getD levels q 0) 0) (a .places)
 
--- what the card at place q drives after a look at the lines, its own contribution included
+-- what the card at place q drives after a look at the lines, its own bits on them among the rest
 unfoldable pub looked : Arbitration → List ℕ → ℕ → ℕ
 looked a levels q = look (a .width) (a .number q) (shown a levels)
 
--- the lines are settled: no contender's look would change what it drives
+-- settled: whichever contender looked now would go on driving what it drives
 unfoldable pub settled : Arbitration → List ℕ → Bool
 settled a levels = everyContender a (λ q. eqb (looked a levels q) (getD levels q 0))
 

@@ -1,4 +1,4 @@
--- Runs of looks on the four lines, with what the lines show then: three rounds that fall short (01, "Marked for proof", M1 to M4), and single cards.
+-- Runs of looks on the four lines, with what the lines show after them: three rounds that fall short (01, "Marked for proof", M1 to M4), and cards alone.
 use Prim.Native.Nat.{ℕ}
 use mathlib.Core.Path.{_≡_}
 use mathlib.Core.Bool.{true, false}
@@ -30,7 +30,7 @@ abbrev pub levelsAfter : List (List ℕ) → List ℕ
 levelsAfter rounds = afterLooks fourNineTen silent (flatten rounds)
 
 pub record ThreeRoundsFallShort : Type 0 where
-  -- all that is asked for settling but the fourth round
+  -- all that settling asks for, except a fourth round
   pub highest : Highest fourNineTen 10
   pub start : InRange fourNineTen silent
   pub rounds : areRounds fourNineTen threeRounds ≡ true
@@ -47,7 +47,7 @@ pub record ThreeRoundsFallShort : Type 0 where
   pub further : isRound fourNineTen (7 ∷ 9 ∷ 9 ∷ 10 ∷ 4 ∷ 16 ∷ []) ≡ true
   pub tooFew : isRound fourNineTen (9 ∷ 10 ∷ 9 ∷ []) ≡ false
 
--- ---- The same cards as a list: 10, 9 and 4 stand, and look, as 0, 1 and 2.
+-- ---- The same cards as a list: 10, 9 and 4 stand and look at positions 0, 1 and 2.
 
 abbrev pub threeListed : Arbitration
 threeListed = listed 4 (10 ∷ 9 ∷ 4 ∷ [])
@@ -67,11 +67,13 @@ abbrev pub alone : ℕ → Arbitration
 alone card = fourLines (λ n. eqb n card)
 
 pub record LoneCard : Type 0 where
-  -- at silent lines it drives its whole number
+  -- card 0's silent lines are settled as they are, and card 10 drives its whole number at silent lines
+  pub cardZero : SettledAt (alone 0) silent 0
   pub whole : SettledAt (alone 10) (afterLooks (alone 10) silent (10 ∷ [])) 10
   -- driving 2, which it should not, card 1 takes that 2 for a higher card's: it drives 0 after one look, and its number after two
   pub strayOnce : getD (afterLooks (alone 1) (0 ∷ 2 ∷ replicate 14 0) (1 ∷ [])) 1 0 ≡ 0
   pub strayTwice : SettledAt (alone 1) (afterLooks (alone 1) (0 ∷ 2 ∷ replicate 14 0) (1 ∷ 1 ∷ [])) 1
-  -- what an idle card drives is on no line, and an idle card is not the highest contender
+  -- what an idle card drives is on no line, its look changes nothing, and it is not the highest contender
   pub idle : SettledAt (alone 1) (0 ∷ 1 ∷ 12 ∷ replicate 13 0) 1
+  pub idleLooks : afterLooks (alone 1) silent (2 ∷ []) ≡ silent
   pub idleLoses : Highest (alone 1) 2 → ⊥

@@ -1,4 +1,4 @@
--- What a card drives on the priority lines once it has looked at them (000, 2.4.3.1 and 2.8.4, rule 6; 01, "Looking and settling").
+-- What a card drives on the priority lines once it has looked at them (000, 2.4.3.1, 2.8.3 and 2.8.4, rule 6; 01, "Looking and settling").
 use Prim.Native.Nat.{ℕ, zero, suc, _+_, _^_}
 use mathlib.Core.Bool.{cond}
 use Rattle.words.specs.Bits.{bitAt}

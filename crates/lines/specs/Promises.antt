@@ -1,11 +1,11 @@
 -- What is promised of the priority lines: once for any number w of lines, and then for the four of this bus. The proof of each stands in proofs/
--- under its name in small letters: that of RoundsSettle is rounds-settle.
+-- under its name in lower case, with hyphens: that of RoundsSettle is rounds-settle.
 use Prim.Native.Nat.{ℕ, _^_, _<_, _≤_}
 use mathlib.Core.Path.{_≡_}
 use mathlib.Core.Logic.{_↔_}
-use mathlib.Core.Bool.{Bool, true, false, not, _&&_, _||_}
+use mathlib.Core.Bool.{Bool, true, false, cond, not, _&&_, _||_}
 use mathlib.Core.List.{List, [], _∷_, _++_, flatten}
-use lib.Dec.{leb}
+use lib.Dec.{leb, eqb}
 use lib.ListN.{length, getD}
 use Rattle.words.specs.Bits.{bitAt}
 use Rattle.words.specs.Below.{allBelow}
@@ -19,7 +19,9 @@ use Rattle.lines.specs.Arbitration.{
   Highest,
   everyContender,
   shown,
+  looked,
   settled,
+  afterLook,
   afterLooks,
   isRound,
   areRounds,
@@ -27,7 +29,8 @@ use Rattle.lines.specs.Arbitration.{
 
 -- ---- What the definitions mean
 
--- A look, place by place: place k is driven exactly if the number has a one there and, at every place above k, has a one or sees none.
+-- A look, place by place: place k is driven exactly if the number has a one there and, at every place above k, the number has a one or the lines
+-- show 0.
 abbrev pub LookByPlace : Type 0
 LookByPlace =
     (w number lines k : ℕ) → k < w
@@ -36,6 +39,12 @@ LookByPlace =
 -- And it drives nothing beyond the w places.
 abbrev pub LookInRange : Type 0
 LookInRange = (w number lines : ℕ) → look w number lines < 2 ^ w
+
+-- A look in the list of levels: the looking contender's entry is what it drives now, and every other entry is what it was.
+abbrev pub LookSetsOne : Type 0
+LookSetsOne =
+    (a : Arbitration) (levels : List ℕ) → length levels ≡ a .places → (p q : ℕ) → p < a .places
+    → getD (afterLook a levels p) q 0 ≡ cond (a .contends p && eqb q p) (looked a levels p) (getD levels q 0)
 
 -- What is asked of every contender, in settled and in a round, is asked of each of them and of nobody else.
 abbrev pub EveryContender : Type 0
@@ -51,10 +60,14 @@ NumbersFit a = (q : ℕ) → Contender a q → a .number q < 2 ^ a .width
 abbrev pub Distinct : Arbitration → Type 0
 Distinct a = (q r : ℕ) → Contender a q → Contender a r → a .number q ≡ a .number r → q ≡ r
 
--- there is a level for each place, and each contender's is below 2 to the power w; otherwise they are free
+-- there is a level for each place, and each contender's is below 2 to the power w; idle cards' levels are free
 pub record InRange (a : Arbitration) (levels : List ℕ) : Type 0 where
   pub size : length levels ≡ a .places
   pub below : (q : ℕ) → Contender a q → getD levels q 0 < 2 ^ a .width
+
+-- where a card's place is its number, both hold
+abbrev pub ByNumber : Type 0
+ByNumber = (w : ℕ) (contends : ℕ → Bool) → NumbersFit (byNumber w contends) × Distinct (byNumber w contends)
 
 -- ---- The highest contender
 
@@ -62,7 +75,7 @@ pub record InRange (a : Arbitration) (levels : List ℕ) : Type 0 where
 abbrev pub HighestExists : Type 0
 HighestExists = (a : Arbitration) (q : ℕ) → Contender a q → (p : ℕ) × Highest a p
 
--- where numbers are distinct, no second.
+-- where the contenders' numbers are distinct, there is only one.
 abbrev pub HighestUnique : Type 0
 HighestUnique = (a : Arbitration) → Distinct a → (p q : ℕ) → Highest a p → Highest a q → p ≡ q
 
@@ -73,7 +86,7 @@ pub record SettledAt (a : Arbitration) (levels : List ℕ) (m : ℕ) : Type 0 wh
   pub shows : shown a levels ≡ m
   pub still : settled a levels ≡ true
 
--- As many rounds as there are lines leave the lines settled at the highest contender's number, and so do any looks after them.
+-- As many rounds as there are lines settle the lines at the highest contender's number, and any looks after them leave them so.
 abbrev pub RoundsSettle : Type 0
 RoundsSettle =
     (a : Arbitration) → NumbersFit a → (p : ℕ) → Highest a p → (levels : List ℕ) → InRange a levels
@@ -94,7 +107,7 @@ SettledShowHighest =
     (a : Arbitration) → NumbersFit a → (p : ℕ) → Highest a p → (levels : List ℕ) → settled a levels ≡ true
     → shown a levels ≡ a .number p
 
--- With card 0 as the only contender they show 0: nothing on the lines does not mean that nobody contends.
+-- Where card 0 alone contends, settled lines show 0: lines at 0 do not mean that nobody contends.
 abbrev pub CardZeroAlone : Type 0
 CardZeroAlone =
     (w : ℕ) (contends : ℕ → Bool) → contends 0 ≡ true → ((q : ℕ) → Contender (byNumber w contends) q → q ≡ 0)
@@ -123,17 +136,18 @@ LevelsInRange = (a : Arbitration) (levels : List ℕ) → InRange a levels → (
 abbrev pub LinesInRange : Type 0
 LinesInRange = (a : Arbitration) (levels : List ℕ) → InRange a levels → shown a levels < 2 ^ a .width
 
--- ---- The same for contenders given as a list of distinct numbers below 2 to the power w
+-- ---- The same for contenders given as a list
 
+-- the numbers are below 2 to the power w, and no two are the same
 pub record DistinctBelow (w : ℕ) (numbers : List ℕ) : Type 0 where
   pub below : (q : ℕ) → q < length numbers → getD numbers q 0 < 2 ^ w
   pub distinct : (q r : ℕ) → q < length numbers → r < length numbers → getD numbers q 0 ≡ getD numbers r 0 → q ≡ r
 
--- Where the list has anyone, one position has the highest number,
+-- Where the list is not empty, some position has the highest number,
 abbrev pub ListedHighestExists : Type 0
 ListedHighestExists = (w number : ℕ) (others : List ℕ) → (p : ℕ) × Highest (listed w (number ∷ others)) p
 
--- and no second.
+-- and only one.
 abbrev pub ListedHighestUnique : Type 0
 ListedHighestUnique =
     (w : ℕ) (numbers : List ℕ) → DistinctBelow w numbers → (p q : ℕ) → Highest (listed w numbers) p → Highest (listed w numbers) q → p ≡ q
@@ -153,7 +167,7 @@ ListedShowHighest =
     (w : ℕ) (numbers : List ℕ) → DistinctBelow w numbers → (p : ℕ) → Highest (listed w numbers) p
     → (levels : List ℕ) → settled (listed w numbers) levels ≡ true → shown (listed w numbers) levels ≡ getD numbers p 0
 
--- At most one list of levels is settled.
+-- Of the lists with a level for each position, at most one is settled.
 abbrev pub ListedSettledUnique : Type 0
 ListedSettledUnique =
     (w : ℕ) (numbers : List ℕ) → DistinctBelow w numbers → (l m : List ℕ) → length l ≡ length numbers → length m ≡ length numbers

@@ -16,7 +16,7 @@ pub below-three : (allBelow (λ k. ltb k 3) 3 ≡ true) × (allBelow (λ k. ltb 
 unfolding allBelow
 below-three = (refl, refl)
 
--- the numbers below 4 make 3, which is neither their sum nor what is odd about them; the OR of no numbers is 0
+-- the OR of 0, 1, 2 and 3 is 3, where their sum is 6 and their exclusive OR 0; the OR of no numbers is 0
 pub or-of-four : (orBelow (λ k. k) 4 ≡ 3) × (orBelow (λ k. k) 0 ≡ 0)
 unfolding orBelow
 or-of-four = (refl, refl)

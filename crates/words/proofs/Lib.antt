@@ -1,4 +1,4 @@
--- The words at small numbers; their laws, and a few of the library's operations' that it leaves out.
+-- The words at small numbers; their laws, and a few laws of library operations that the library lacks.
 pub mod AtSmallNumbers
 pub mod TestLaws
 pub mod BitLaws
