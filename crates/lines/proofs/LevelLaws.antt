@@ -1,17 +1,15 @@
 -- What a look leaves in the list of levels, and that looks leave the levels and the lines in range.
-use mathlib.Core.Path.{_≡_, refl, sym, ap, _∙_, subst}
+use mathlib.Core.Path.{_≡_, refl, ap, _∙_, subst}
 use mathlib.Core.Bool.{Bool, true, false, cond, _&&_}
 use mathlib.Core.List.{List, [], _∷_, _++_}
 use Prim.Native.Nat.{ℕ, _^_, _<_}
-use native.Mathlib.Decide.{ℕ-discrete}
 use native.Mathlib.Omega.{arith}
 use lib.Dec.{eqb}
 use lib.ListN.{length, getD, set, length-set}
-use lib.Seq.{getD-set-same, getD-set-other}
+use lib.Seq.{getD-set-same}
 use lib.Pow.{pow-pos}
-use borrow.Author.Tests.{eq-eqb, ne-eqb}
 use Rattle.words.proofs.BelowLaws.{or-below-lt}
-use Rattle.words.proofs.ListLaws.{getD-set-either}
+use Rattle.words.proofs.ListLaws.{getD-set, getD-set-either}
 use Rattle.lines.specs.Arbitration.{Arbitration, Contender, shown, looked, afterLook, afterLooks}
 use Rattle.lines.specs.Promises.{LookSetsOne, LevelsInRange, LinesInRange}
 use Rattle.lines.proofs.LookLaws.{look-in-range}
@@ -32,16 +30,6 @@ module _ (a : Arbitration) where
   own-look levels size q k =
       ap (λ (b : Bool). getD (cond b (set levels q (looked a levels q)) levels) q 0) (k .contending)
       ∙ getD-set-same levels q (looked a levels q) 0 (omega (arith, k .present, size))
-
-  sets-one : (levels : List ℕ) (v p q : ℕ) → p < length levels → getD (set levels p v) q 0 ≡ cond (eqb q p) v (getD levels q 0)
-  sets-one levels v p q h = go (ℕ-discrete q p)
-    where
-      go : Dec (q ≡ p) → getD (set levels p v) q 0 ≡ cond (eqb q p) v (getD levels q 0)
-      go (yes e) =
-          ap (λ (x : ℕ). getD (set levels p v) x 0) e
-          ∙ getD-set-same levels p v 0 h
-          ∙ ap (λ (b : Bool). cond b v (getD levels q 0)) (sym (eq-eqb q p e))
-      go (no other) = getD-set-other levels p q v 0 other ∙ ap (λ (b : Bool). cond b v (getD levels q 0)) (sym (ne-eqb q p other))
 
   -- after anyone's look a card drives what it drove, or what its own look at those lines gives: so what holds of both holds of its level
   pub after-look : (P : ℕ → Type 0) (levels : List ℕ) (p q : ℕ) → P (getD levels q 0) → P (looked a levels q) → P (getD (afterLook a levels p) q 0)
@@ -66,7 +54,7 @@ unfolding afterLook
 look-sets-one a levels size p q h = go (a .contends p)
   where
     go : (b : Bool) → getD (cond b (set levels p (looked a levels p)) levels) q 0 ≡ cond (b && eqb q p) (looked a levels p) (getD levels q 0)
-    go true = sets-one a levels (looked a levels p) p q (omega arith)
+    go true = getD-set levels p q (looked a levels p) (omega arith)
     go false = refl
 
 pub levels-in-range : LevelsInRange

@@ -1,5 +1,5 @@
 -- Why as many rounds as there are lines settle them, from any levels. Let m be the highest contender's number, and let a card's final level be
--- what its look at m would drive. Where every contender's level is final above some place, the lines agree with m there, and so whatever a look
+-- what its look at m would drive. Where every contender's level is final from some place up, the lines agree with m there, and so whatever a look
 -- drives from then on is final one place further down. So each round makes one more place final, from the highest down; and settled
 -- levels, which no look changes, are the final ones.
 use mathlib.Core.Path.{_≡_, refl, sym, ap, _∙_, subst}
@@ -85,7 +85,7 @@ module _ (a : Arbitration) (fit : NumbersFit a) (p : ℕ) (best : Highest a p) w
       (best .contender .present)
       (ap (λ (b : Bool). cond b (finalLevel p) 0) (best .contender .contending) ∙ own)
 
-  -- ---- Levels that are final from the place j up
+  -- ---- Levels that are final from place j up
 
   FinalAt : ℕ → List ℕ → ℕ → Type 0
   FinalAt j levels q = getD levels q 0 / 2 ^ j ≡ finalLevel q / 2 ^ j
