@@ -1,17 +1,19 @@
 -- What a look leaves in the list of levels, and that looks leave the levels and the lines in range.
-use mathlib.Core.Path.{_≡_, refl, ap, _∙_, subst}
-use mathlib.Core.Bool.{Bool, true, false, cond, _&&_}
+use mathlib.Core.Path.{_≡_, refl, ap, ap₂, _∙_, subst}
+use mathlib.Core.Bool.{Bool, true, false, cond, not, _&&_, _||_}
 use mathlib.Core.List.{List, [], _∷_, _++_}
 use Prim.Native.Nat.{ℕ, _^_, _<_}
 use native.Mathlib.Omega.{arith}
 use lib.Dec.{eqb}
 use lib.ListN.{length, getD, set, length-set}
-use lib.Seq.{getD-set-same}
 use lib.Pow.{pow-pos}
-use Rattle.words.proofs.BelowLaws.{or-below-lt}
+use borrow.Author.Tests.{eq-eqb}
+use Rattle.words.specs.Bits.{bitAt}
+use Rattle.words.proofs.BitLaws.{bit-above}
+use Rattle.words.proofs.BelowLaws.{all-same, or-below-bit, or-below-lt}
 use Rattle.words.proofs.ListLaws.{getD-set, getD-set-either}
-use Rattle.lines.specs.Arbitration.{Arbitration, Contender, shown, looked, afterLook, afterLooks}
-use Rattle.lines.specs.Promises.{LookSetsOne, LevelsInRange, LinesInRange}
+use Rattle.lines.specs.Arbitration.{Arbitration, Contender, everyContender, shown, looked, afterLook, afterLooks}
+use Rattle.lines.specs.Promises.{LookSetsOne, ShownByPlace, LevelsInRange, LinesInRange}
 use Rattle.lines.proofs.LookLaws.{look-in-range}
 use Rattle.lines.proofs.ContenderLaws.{by-contending}
 
@@ -23,13 +25,6 @@ module _ (a : Arbitration) where
       go : (b : Bool) → length (cond b (set levels p (looked a levels p)) levels) ≡ length levels
       go true = length-set levels p (looked a levels p)
       go false = refl
-
-  -- a contender's look sets what it drives
-  pub own-look : (levels : List ℕ) → length levels ≡ a .places → (q : ℕ) → Contender a q → getD (afterLook a levels q) q 0 ≡ looked a levels q
-  unfolding afterLook
-  own-look levels size q k =
-      ap (λ (b : Bool). getD (cond b (set levels q (looked a levels q)) levels) q 0) (k .contending)
-      ∙ getD-set-same levels q (looked a levels q) 0 (omega (arith, k .present, size))
 
   -- after anyone's look a card drives what it drove, or what its own look at those lines gives: so what holds of both holds of its level
   pub after-look : (P : ℕ → Type 0) (levels : List ℕ) (p q : ℕ) → P (getD levels q 0) → P (looked a levels q) → P (getD (afterLook a levels p) q 0)
@@ -56,6 +51,22 @@ look-sets-one a levels size p q h = go (a .contends p)
     go : (b : Bool) → getD (cond b (set levels p (looked a levels p)) levels) q 0 ≡ cond (b && eqb q p) (looked a levels p) (getD levels q 0)
     go true = getD-set levels p q (looked a levels p) (omega arith)
     go false = refl
+
+-- so a contender's look sets what it drives
+pub own-look : (a : Arbitration) (levels : List ℕ) → length levels ≡ a .places → (q : ℕ) → Contender a q → getD (afterLook a levels q) q 0 ≡ looked a levels q
+own-look a levels size q k =
+    look-sets-one a levels size q q (k .present)
+    ∙ ap₂ (λ (b c : Bool). cond (b && c) (looked a levels q) (getD levels q 0)) (k .contending) (eq-eqb q q refl)
+
+pub shown-by-place : ShownByPlace
+unfolding shown everyContender
+shown-by-place a levels k =
+    or-below-bit (λ q. cond (a .contends q) (getD levels q 0) 0) k (a .places)
+    ∙ all-same _ _ (a .places) (λ q h. go (a .contends q) (getD levels q 0))
+  where
+    go : (b : Bool) (x : ℕ) → not (bitAt (cond b x 0) k) ≡ (not b || not (bitAt x k))
+    go true x = refl
+    go false x = ap not (bit-above k 0 (pow-pos k))
 
 pub levels-in-range : LevelsInRange
 unfolding afterLooks

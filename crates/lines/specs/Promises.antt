@@ -46,6 +46,12 @@ LookSetsOne =
     (a : Arbitration) (levels : List ℕ) → length levels ≡ a .places → (p q : ℕ) → p < a .places
     → getD (afterLook a levels p) q 0 ≡ cond (a .contends p && eqb q p) (looked a levels p) (getD levels q 0)
 
+-- The lines, place by place: one shows 0 exactly if every contender leaves it at 0.
+abbrev pub ShownByPlace : Type 0
+ShownByPlace =
+    (a : Arbitration) (levels : List ℕ) (k : ℕ)
+    → not (bitAt (shown a levels) k) ≡ everyContender a (λ q. not (bitAt (getD levels q 0) k))
+
 -- What is asked of every contender, in settled and in a round, is asked of each of them and of nobody else.
 abbrev pub EveryContender : Type 0
 EveryContender = (a : Arbitration) (test : ℕ → Bool) → (everyContender a test ≡ true) ↔ ((q : ℕ) → Contender a q → test q ≡ true)
@@ -65,7 +71,7 @@ pub record InRange (a : Arbitration) (levels : List ℕ) : Type 0 where
   pub size : length levels ≡ a .places
   pub below : (q : ℕ) → Contender a q → getD levels q 0 < 2 ^ a .width
 
--- where a card's place is its number, both hold
+-- Where a card's place is its number, the numbers fit and are distinct.
 abbrev pub ByNumber : Type 0
 ByNumber = (w : ℕ) (contends : ℕ → Bool) → NumbersFit (byNumber w contends) × Distinct (byNumber w contends)
 

@@ -16,10 +16,10 @@ pub below-three : (allBelow (λ k. ltb k 3) 3 ≡ true) × (allBelow (λ k. ltb 
 unfolding allBelow
 below-three = (refl, refl)
 
--- the OR of 0, 1, 2 and 3 is 3, where their sum is 6 and their exclusive OR 0; the OR of no numbers is 0
-pub or-of-four : (orBelow (λ k. k) 4 ≡ 3) × (orBelow (λ k. k) 0 ≡ 0)
+-- the OR of 0, 1 and 2 is 3, where the greatest is 2; that of 0 to 3 is 3, where the sum is 6 and the exclusive OR 0; that of no numbers is 0
+pub or-of-few : (orBelow (λ k. k) 3 ≡ 3) × (orBelow (λ k. k) 4 ≡ 3) × (orBelow (λ k. k) 0 ≡ 0)
 unfolding orBelow
-or-of-four = (refl, refl)
+or-of-few = (refl, refl, refl)
 
 -- 9 is in the list, and neither 3 nor 11 is
 pub nine-among : (isAmong 9 (4 ∷ 9 ∷ 10 ∷ []) ≡ true) × (isAmong 3 (4 ∷ 9 ∷ 10 ∷ []) ≡ false) × (isAmong 11 (4 ∷ 9 ∷ 10 ∷ []) ≡ false)

@@ -1,13 +1,14 @@
 -- The laws of `allBelow` and `orBelow`: one entry out of all, all from each, and what the OR of many numbers is.
 use mathlib.Core.Path.{_≡_, refl, sym, ap, ap₂, _∙_}
 use mathlib.Core.Logic.{_⊎_, ⊎-elim}
-use mathlib.Core.Bool.{Bool, true, and-eq-true-iff}
+use mathlib.Core.Bool.{Bool, true, false, not, _&&_, _||_, and-eq-true-iff}
 use Prim.Native.Nat.{ℕ, zero, suc, _/_, _^_, _<_}
 use native.Mathlib.Nat.{not-suc-le-zero, le-of-suc-le-suc, eq-or-lt-of-le, le-step, lt-suc-self}
 use lib.Pow.{pow-pos}
 use lib.Bits.{bitOr, or-shr, or-lt, or-comm}
+use Rattle.words.specs.Bits.{bitAt}
 use Rattle.words.specs.Below.{allBelow, orBelow}
-use Rattle.words.proofs.BitLaws.{bitOr-assoc}
+use Rattle.words.proofs.BitLaws.{bit-above, bit-or, bitOr-assoc}
 
 -- a number below n + 1 is n or below it
 pub last-or-below : {k n : ℕ} → k < suc n → (k ≡ n) ⊎ (k < n)
@@ -26,6 +27,24 @@ module _ (test : ℕ → Bool) where
   all-of zero each = refl
   all-of (suc n) each =
       and-eq-true-iff (allBelow test n) (test n) .1 (all-of n (λ k h. each k (le-step h)), each n (lt-suc-self n))
+
+pub all-same : (f g : ℕ → Bool) (n : ℕ) → ((k : ℕ) → k < n → f k ≡ g k) → allBelow f n ≡ allBelow g n
+unfolding allBelow
+all-same f g zero each = refl
+all-same f g (suc n) each = ap₂ _&&_ (all-same f g n (λ k h. each k (le-step h))) (each n (lt-suc-self n))
+
+-- an OR of many has a zero exactly where each of them has
+pub or-below-bit : (f : ℕ → ℕ) (k n : ℕ) → not (bitAt (orBelow f n) k) ≡ allBelow (λ q. not (bitAt (f q) k)) n
+unfolding allBelow orBelow
+or-below-bit f k zero = ap not (bit-above k 0 (pow-pos k))
+or-below-bit f k (suc n) =
+    ap not (bit-or (orBelow f n) (f n) k)
+    ∙ neither (bitAt (orBelow f n) k) (bitAt (f n) k)
+    ∙ ap (λ (t : Bool). t && not (bitAt (f n) k)) (or-below-bit f k n)
+  where
+    neither : (a b : Bool) → not (a || b) ≡ (not a && not b)
+    neither true b = refl
+    neither false b = refl
 
 -- the OR of numbers of w places has w places
 pub or-below-lt : (w : ℕ) (f : ℕ → ℕ) (n : ℕ) → ((k : ℕ) → k < n → f k < 2 ^ w) → orBelow f n < 2 ^ w

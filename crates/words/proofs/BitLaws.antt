@@ -1,6 +1,6 @@
 -- The laws of `bitAt`, and of the OR of two numbers, that the library lacks. What a number has from place j up is its quotient by 2 to the power j.
 use mathlib.Core.Path.{_≡_, refl, sym, ap, ap₂, _∙_}
-use mathlib.Core.Bool.{Bool, true, false, cond}
+use mathlib.Core.Bool.{Bool, true, false, cond, _||_}
 use Prim.Native.Nat.{ℕ, suc, _+_, _*_, _/_, _%_, _^_, _<_, max}
 use native.Mathlib.Nat.{le-dest, mul-add-div, div-eq-of-lt, one-mul}
 use native.Mathlib.Numerals.{add-one, one-add}
@@ -26,15 +26,19 @@ shr-suc n j = shr-shr n j 1 ∙ ap (λ (x : ℕ). n / 2 ^ x) (add-one j)
 pub agree-suc : (j a b : ℕ) → a / 2 ^ j ≡ b / 2 ^ j → a / 2 ^ suc j ≡ b / 2 ^ suc j
 agree-suc j a b e = sym (shr-suc a j) ∙ ap (λ (x : ℕ). x / 2) e ∙ shr-suc b j
 
+pub bit-one : (n k : ℕ) → bitAt n k ≡ true → n / 2 ^ k % 2 ≡ 1
+bit-one n k e = eqb-true (n / 2 ^ k % 2) 1 e
+
+pub bit-zero : (n k : ℕ) → bitAt n k ≡ false → n / 2 ^ k % 2 ≡ 0
+bit-zero n k e = omega (arith, eqb-false (n / 2 ^ k % 2) 1 e)
+
 -- the k + 1 low places are place k and the k below it
 pub low-suc : (n k : ℕ) → n % 2 ^ suc k ≡ cond (bitAt n k) (2 ^ k + n % 2 ^ k) (n % 2 ^ k)
 low-suc n k = ap (λ (x : ℕ). n % 2 ^ x) (sym (one-add k)) ∙ mod-pow-add n 1 k ∙ go (bitAt n k) refl
   where
     go : (b : Bool) → bitAt n k ≡ b → n / 2 ^ k % 2 * 2 ^ k + n % 2 ^ k ≡ cond b (2 ^ k + n % 2 ^ k) (n % 2 ^ k)
-    go true e = rw (eqb-true (n / 2 ^ k % 2) 1 e) (omega arith)
-    go false e =
-        let z : n / 2 ^ k % 2 ≡ 0 = omega (arith, eqb-false (n / 2 ^ k % 2) 1 e) in
-        rw z (omega arith)
+    go true e = rw (bit-one n k e) (omega arith)
+    go false e = rw (bit-zero n k e) (omega arith)
 
 -- ---- A number of w places has no one from place w up, and a one put on top of it is its only one there.
 
@@ -60,6 +64,19 @@ or-odd : (a b : ℕ) → bitOr a b % 2 ≡ max (a % 2) (b % 2)
 or-odd a b =
     ap (λ (x : ℕ). x % 2) (or-step a b)
     ∙ digits-mod (bitOr (a / 2) (b / 2)) {m = 2} {r = max (a % 2) (b % 2)} (omega arith)
+
+-- an OR has a one where either number has
+pub bit-or : (a b k : ℕ) → bitAt (bitOr a b) k ≡ (bitAt a k || bitAt b k)
+bit-or a b k =
+    ap (λ (x : ℕ). eqb (x % 2) 1) (or-shr a b k)
+    ∙ ap (λ (x : ℕ). eqb x 1) (or-odd (a / 2 ^ k) (b / 2 ^ k))
+    ∙ go (bitAt a k) (bitAt b k) refl refl
+  where
+    go : (x y : Bool) → bitAt a k ≡ x → bitAt b k ≡ y → eqb (max (a / 2 ^ k % 2) (b / 2 ^ k % 2)) 1 ≡ (x || y)
+    go true true ea eb = rw (bit-one a k ea, bit-one b k eb)
+    go true false ea eb = rw (bit-one a k ea, bit-zero b k eb)
+    go false true ea eb = rw (bit-zero a k ea, bit-one b k eb)
+    go false false ea eb = rw (bit-zero a k ea, bit-zero b k eb)
 
 pub bitOr-assoc : (a b c : ℕ) → bitOr (bitOr a b) c ≡ bitOr a (bitOr b c)
 bitOr-assoc a =
