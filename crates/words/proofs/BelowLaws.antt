@@ -2,8 +2,9 @@
 use mathlib.Core.Path.{_≡_, refl, sym, ap, ap₂, _∙_}
 use mathlib.Core.Logic.{_⊎_, ⊎-elim}
 use mathlib.Core.Bool.{Bool, true, false, not, _&&_, _||_, and-eq-true-iff}
-use Prim.Native.Nat.{ℕ, zero, suc, _/_, _^_, _<_}
-use native.Mathlib.Nat.{not-suc-le-zero, le-of-suc-le-suc, eq-or-lt-of-le, le-step, lt-suc-self}
+use Prim.Native.Nat.{ℕ, zero, suc, _+_, _/_, _^_, _<_, _≤_}
+use native.Mathlib.Nat.{not-suc-le-zero, le-antisymm, le-of-suc-le-suc, eq-or-lt-of-le, le-step, lt-suc-self}
+use native.Mathlib.Numerals.{add-one}
 use lib.Pow.{pow-pos}
 use lib.Bits.{bitOr, or-shr, or-lt, or-comm}
 use Rattle.words.specs.Bits.{bitAt}
@@ -27,6 +28,27 @@ module _ (test : ℕ → Bool) where
   all-of zero each = refl
   all-of (suc n) each =
       and-eq-true-iff (allBelow test n) (test n) .1 (all-of n (λ k h. each k (le-step h)), each n (lt-suc-self n))
+
+-- Going through the numbers in order, as a loop does: at first nothing is asked; what is found so far, with the next one, is what is found one
+-- further; and what is found when the bound has been reached is found of all.
+pub all-start : (test : ℕ → Bool) → true ≡ allBelow test 0
+unfolding allBelow
+all-start test = refl
+
+pub or-start : (f : ℕ → ℕ) → 0 ≡ orBelow f 0
+unfolding orBelow
+or-start f = refl
+
+pub all-next : (test : ℕ → Bool) (n : ℕ) {ok : Bool} → ok ≡ allBelow test n → (ok && test n) ≡ allBelow test (n + 1)
+unfolding allBelow
+all-next test n e = ap (λ (b : Bool). b && test n) e ∙ ap (allBelow test) (sym (add-one n))
+
+pub or-next : (f : ℕ → ℕ) (n : ℕ) {so-far : ℕ} → so-far ≡ orBelow f n → bitOr so-far (f n) ≡ orBelow f (n + 1)
+unfolding orBelow
+or-next f n e = ap (λ (x : ℕ). bitOr x (f n)) e ∙ ap (orBelow f) (sym (add-one n))
+
+pub at-bound : {A : Type 0} (f : ℕ → A) {found : A} {n m : ℕ} → found ≡ f n → n ≤ m → m ≤ n → found ≡ f m
+at-bound f e h l = e ∙ ap f (le-antisymm h l)
 
 pub all-same : (f g : ℕ → Bool) (n : ℕ) → ((k : ℕ) → k < n → f k ≡ g k) → allBelow f n ≡ allBelow g n
 unfolding allBelow

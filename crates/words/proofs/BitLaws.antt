@@ -1,8 +1,8 @@
 -- The laws of `bitAt`, and of the OR of two numbers, that the library lacks. What a number has from place j up is its quotient by 2 to the power j.
 use mathlib.Core.Path.{_≡_, refl, sym, ap, ap₂, _∙_}
 use mathlib.Core.Bool.{Bool, true, false, cond, _||_}
-use Prim.Native.Nat.{ℕ, suc, _+_, _*_, _/_, _%_, _^_, _<_, max}
-use native.Mathlib.Nat.{le-dest, mul-add-div, div-eq-of-lt, one-mul}
+use Prim.Native.Nat.{ℕ, zero, suc, _+_, _*_, _/_, _%_, _^_, _<_, max}
+use native.Mathlib.Nat.{le-dest, le-step, lt-suc-self, mul-add-div, mod-eq-of-lt, div-eq-of-lt, one-mul}
 use native.Mathlib.Numerals.{add-one, one-add}
 use native.Mathlib.Omega.{arith}
 use lib.Dec.{eqb}
@@ -39,6 +39,18 @@ low-suc n k = ap (λ (x : ℕ). n % 2 ^ x) (sym (one-add k)) ∙ mod-pow-add n 1
     go : (b : Bool) → bitAt n k ≡ b → n / 2 ^ k % 2 * 2 ^ k + n % 2 ^ k ≡ cond b (2 ^ k + n % 2 ^ k) (n % 2 ^ k)
     go true e = rw (bit-one n k e) (omega arith)
     go false e = rw (bit-zero n k e) (omega arith)
+
+-- what numbers have in their w low places is the same if it is the same at each of these
+low-same : (w a b : ℕ) → ((k : ℕ) → k < w → bitAt a k ≡ bitAt b k) → a % 2 ^ w ≡ b % 2 ^ w
+low-same zero a b each = omega arith
+low-same (suc w) a b each =
+    low-suc a w
+    ∙ ap₂ (λ (t : Bool) (x : ℕ). cond t (2 ^ w + x) x) (each w (lt-suc-self w)) (low-same w a b (λ k h. each k (le-step h)))
+    ∙ sym (low-suc b w)
+
+-- so two numbers of w places with the same bits are the same number
+pub bits-same : (w : ℕ) {a b : ℕ} → a < 2 ^ w → b < 2 ^ w → ((k : ℕ) → k < w → bitAt a k ≡ bitAt b k) → a ≡ b
+bits-same w {a} {b} ha hb each = sym (mod-eq-of-lt ha) ∙ low-same w a b each ∙ mod-eq-of-lt hb
 
 -- ---- A number of w places has no one from place w up, and a one put on top of it is its only one there.
 

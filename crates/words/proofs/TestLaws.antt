@@ -8,6 +8,12 @@ pub true-or-false : (b : Bool) → (b ≡ true) ⊎ (b ≡ false)
 true-or-false true = inl refl
 true-or-false false = inr refl
 
+-- two tests that hold together come out the same
+pub tests-same : (a b : Bool) → (a ≡ true → b ≡ true) → (b ≡ true → a ≡ true) → a ≡ b
+tests-same true b to from = sym (to refl)
+tests-same false true to from = from refl
+tests-same false false to from = refl
+
 -- a disjunction that holds: one of its sides does
 pub either-of : (a b : Bool) → (a || b) ≡ true → (a ≡ true) ⊎ (b ≡ true)
 either-of true b e = inl refl

@@ -1,0 +1,58 @@
+-- Sets of sixteen cards: the short tests of the code say the same as the definitions, which ask card by card.
+use Prim.Native.Nat.{ℕ, _<_, _^_}
+use mathlib.Core.Path.{_≡_, refl, sym, subst, ap, ap₂, _∙_}
+use mathlib.Core.Bool.{Bool, true, false, not, _&&_, _||_}
+use lib.Dec.{eqb}
+use lib.Bits.{bitOr, or-lt}
+use lib.Pow.{pow-pos}
+use borrow.Author.Tests.{lt-ltb, eqb-true, eq-eqb, not-true}
+use Rattle.words.specs.Bits.{bitAt}
+use Rattle.words.specs.Below.{allBelow}
+use Rattle.words.proofs.TestLaws.{tests-same}
+use Rattle.words.proofs.BitLaws.{bits-same, bit-above, bit-or}
+use Rattle.words.proofs.BelowLaws.{all-at, all-of}
+use Rattle.bus.specs.Cards.{cardIn, someCard, isWithin}
+
+adds-nothing : (a b : Bool) → (a || b) ≡ b → (not a || b) ≡ true
+adds-nothing true b e = sym e
+adds-nothing false b e = refl
+
+added-none : (a b : Bool) → (not a || b) ≡ true → (a || b) ≡ b
+added-none true b e = sym e
+added-none false b e = refl
+
+pub card-bit : (cards n : ℕ) → n < 16 → cardIn cards n ≡ bitAt cards n
+card-bit cards n h = rw (lt-ltb n 16 h)
+
+-- what is asked of all cards of the set, card by card
+pub some-card : (cards : ℕ) → cards < 2 ^ 16 → not (eqb cards 0) ≡ someCard cards
+unfolding someCard
+some-card cards h = ap not (tests-same _ _ none empty)
+  where
+    none : eqb cards 0 ≡ true → allBelow (λ n. not (cardIn cards n)) 16 ≡ true
+    none e =
+        all-of _ 16 (λ n k.
+        ap not (card-bit cards n k ∙ ap (λ (x : ℕ). bitAt x n) (eqb-true cards 0 e) ∙ bit-above n 0 (pow-pos n)))
+
+    empty : allBelow (λ n. not (cardIn cards n)) 16 ≡ true → eqb cards 0 ≡ true
+    empty e =
+        eq-eqb cards 0 (bits-same 16 h (pow-pos 16) (λ n k.
+        sym (card-bit cards n k) ∙ not-true (cardIn cards n) (all-at _ 16 e n k) ∙ sym (bit-above n 0 (pow-pos n))))
+
+pub is-within : (cards others : ℕ) → cards < 2 ^ 16 → others < 2 ^ 16 → eqb (bitOr cards others) others ≡ isWithin cards others
+unfolding isWithin
+is-within cards others hc ho = tests-same _ _ each whole
+  where
+    both : (n : ℕ) → n < 16 → bitAt (bitOr cards others) n ≡ (cardIn cards n || cardIn others n)
+    both n k = bit-or cards others n ∙ sym (ap₂ _||_ (card-bit cards n k) (card-bit others n k))
+
+    each : eqb (bitOr cards others) others ≡ true → allBelow (λ n. not (cardIn cards n) || cardIn others n) 16 ≡ true
+    each e =
+        all-of _ 16 (λ n k.
+        adds-nothing (cardIn cards n) (cardIn others n)
+        (sym (both n k) ∙ ap (λ (x : ℕ). bitAt x n) (eqb-true (bitOr cards others) others e) ∙ sym (card-bit others n k)))
+
+    whole : allBelow (λ n. not (cardIn cards n) || cardIn others n) 16 ≡ true → eqb (bitOr cards others) others ≡ true
+    whole e =
+        eq-eqb (bitOr cards others) others (bits-same 16 (or-lt 16 cards others hc ho) ho (λ n k.
+        both n k ∙ added-none (cardIn cards n) (cardIn others n) (all-at _ 16 e n k) ∙ card-bit others n k))

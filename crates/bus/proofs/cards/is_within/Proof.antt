@@ -1,0 +1,8 @@
+-- By the law on sets of sixteen cards.
+use Rattle.bus.proofs.CardLaws.{is-within}
+use Rattle.bus.proofs.cards.is_within.Statement.{statement}
+use Rattle.bus.proofs.cards.is_within.Tie as tie
+
+pub is-within-spec : {M : Type 1} → statement M
+is-within-spec =
+    tie.close (tie.spec (λ c. is-within (c .args .cards) (c .args .others) (c .fits .cards .fits) (c .fits .others .fits)))

@@ -1,0 +1,41 @@
+-- When a state makes sense (01, "State and phases").
+use Prim.Native.Nat.{ℕ}
+use mathlib.Core.Bool.{Bool, cond, not, _&&_, _||_}
+use mathlib.Core.List.{List}
+use lib.Dec.{eqb, leb}
+use lib.ListN.{length, getD}
+use Rattle.words.specs.Below.{allBelow}
+use Rattle.bus.specs.Phase as Phase
+use Rattle.bus.specs.Cards.{cardIn, someCard, isWithin}
+use Rattle.bus.specs.State.{nobody}
+use Rattle.bus.specs.declared.state.Bus.{Bus}
+
+-- the lists have an entry for each page and for each card; in code they are arrays of sixteen, so there this always holds
+abbrev pub hasSixteen : Bus → Bool
+hasSixteen bus = eqb (length (bus .pages)) 16 && eqb (length (bus .driven)) 16
+
+-- page codes are at most 2
+unfoldable pub pagesKnown : List ℕ → Bool
+pagesKnown pages = allBelow (λ p. leb (getD pages p 0) 2) 16
+
+-- contenders are fitted, and there is at least one in arbitration and none in another phase
+abbrev pub contentionFits : Bus → Bool
+contentionFits bus =
+    isWithin (bus .contenders) (bus .fitted)
+    && (not (eqb (bus .phase) Phase.arbitration) || someCard (bus .contenders))
+    && (eqb (bus .phase) Phase.arbitration || not (someCard (bus .contenders)))
+
+-- a contender drives at most 15, and any other card drives 0
+unfoldable pub drivingFits : Bus → Bool
+drivingFits bus = allBelow (λ n. leb (getD (bus .driven) n 0) (cond (cardIn (bus .contenders) n) 15 0)) 16
+
+-- from the grant to the end of transfer two a fitted card is granted, and in the other phases nobody is
+abbrev pub grantFits : Bus → Bool
+grantFits bus =
+    (not (Phase.isFrom Phase.granted Phase.transferTwo (bus .phase)) || cardIn (bus .fitted) (bus .granted))
+    && (Phase.isFrom Phase.granted Phase.transferTwo (bus .phase) || eqb (bus .granted) nobody)
+
+unfoldable pub makesSense : Bus → Bool
+makesSense bus =
+    hasSixteen bus && pagesKnown (bus .pages) && leb (bus .phase) Phase.transferTwo
+    && contentionFits bus && drivingFits bus && grantFits bus

@@ -1,0 +1,70 @@
+-- What each method hands back. In a phase, or for a card, in which the events will refuse it, that is the state as given (01, "Events", "Looking
+-- and settling").
+use Prim.Native.Nat.{ℕ}
+use mathlib.Core.Bool.{Bool, cond, _&&_}
+use mathlib.Core.List.{List, [], _∷_}
+use lib.Dec.{eqb}
+use Rattle.lines.specs.Arbitration.{afterLook}
+use Rattle.bus.specs.Phase as Phase
+use Rattle.bus.specs.Cards.{someCard, isWithin}
+use Rattle.bus.specs.State.{moved, silent, nobody, arbitrationOf, linesOf, isSettled}
+use Rattle.bus.specs.declared.state.Bus.{Bus}
+
+-- ---- Asking for the bus
+
+-- the bus is free, and some cards are named, all of them fitted
+abbrev pub mayRequest : Bus → ℕ → Bool
+mayRequest bus cards = eqb (bus .phase) Phase.free && someCard cards && isWithin cards (bus .fitted)
+
+-- they contend, each driving 0
+abbrev pub requested : Bus → ℕ → Bus
+requested bus cards = cond (mayRequest bus cards) (moved bus Phase.arbitration cards silent (bus .granted)) bus
+
+-- a contender's look sets what it drives
+abbrev pub lookedBy : Bus → ℕ → Bus
+lookedBy bus card =
+    cond (eqb (bus .phase) Phase.arbitration)
+    (moved bus (bus .phase) (bus .contenders) (afterLook (arbitrationOf bus) (bus .driven) card) (bus .granted))
+    bus
+
+-- looks one after another
+unfoldable pub afterLooksOf : Bus → List ℕ → Bus
+afterLooksOf bus [] = bus
+afterLooksOf bus (card ∷ cards) = afterLooksOf (lookedBy bus card) cards
+
+-- somebody contends, and the lines are settled
+abbrev pub mayAcknowledge : Bus → Bool
+mayAcknowledge bus = eqb (bus .phase) Phase.arbitration && someCard (bus .contenders) && isSettled bus
+
+-- the contender whose number the lines show is granted, the others go idle, and all priority driving ends (house)
+abbrev pub acknowledged : Bus → Bus
+acknowledged bus = cond (mayAcknowledge bus) (moved bus Phase.granted 0 silent (linesOf bus)) bus
+
+-- ---- Handing the bus over and back
+
+-- this card is the granted one, in this phase
+abbrev pub mayHand : Bus → ℕ → ℕ → Bool
+mayHand bus from card = eqb (bus .phase) from && eqb (bus .granted) card
+
+-- its step leads to another phase
+abbrev pub handed : Bus → ℕ → ℕ → ℕ → Bus
+handed bus from to card = cond (mayHand bus from card) (moved bus to (bus .contenders) (bus .driven) (bus .granted)) bus
+
+abbrev pub transferOneBegun : Bus → ℕ → Bus
+transferOneBegun bus card = handed bus Phase.granted Phase.transferOne card
+
+abbrev pub busTaken : Bus → ℕ → Bus
+busTaken bus card = handed bus Phase.transferOne Phase.owned card
+
+abbrev pub transferTwoBegun : Bus → ℕ → Bus
+transferTwoBegun bus card = handed bus Phase.owned Phase.transferTwo card
+
+-- pHLDA falls with it (house), so the bus is free and nobody is granted
+abbrev pub givenBack : Bus → ℕ → Bus
+givenBack bus card = cond (mayHand bus Phase.transferTwo card) (moved bus Phase.free (bus .contenders) (bus .driven) nobody) bus
+
+-- ---- Reset
+
+-- from any state: fitted cards and pages stay, contention and grant end
+abbrev pub resetTo : Bus → Bus
+resetTo bus = moved bus Phase.free 0 silent nobody
