@@ -26,8 +26,8 @@ contentionFits bus =
     && (eqb (bus .phase) Phase.arbitration || not (someCard (bus .contenders)))
 
 -- a contender drives at most 15, and any other card drives 0
-unfoldable pub drivingFits : Bus → Bool
-drivingFits bus = allBelow (λ n. leb (getD (bus .driven) n 0) (cond (cardIn (bus .contenders) n) 15 0)) 16
+unfoldable pub drivingFits : ℕ → List ℕ → Bool
+drivingFits contenders driven = allBelow (λ n. leb (getD driven n 0) (cond (cardIn contenders n) 15 0)) 16
 
 -- from the grant to the end of transfer two a fitted card is granted, and in the other phases nobody is
 abbrev pub grantFits : Bus → Bool
@@ -38,4 +38,4 @@ grantFits bus =
 unfoldable pub makesSense : Bus → Bool
 makesSense bus =
     hasSixteen bus && pagesKnown (bus .pages) && leb (bus .phase) Phase.transferTwo
-    && contentionFits bus && drivingFits bus && grantFits bus
+    && contentionFits bus && drivingFits (bus .contenders) (bus .driven) && grantFits bus

@@ -1,9 +1,8 @@
 // The state of the bus, whether it makes sense, and setup.
 ghost use mathlib.Core.Path.{_≡_};
-ghost use mathlib.Core.Bool.{_&&_};
 ghost use Rattle.bus.specs.Sense.{pagesKnown, contentionFits, drivingFits, grantFits, makesSense};
-ghost use Rattle.bus.specs.Setup.{setupOf};
-use crate::cards::{card_in, is_within, some_card};
+ghost use Rattle.bus.specs.Setup.{freeBus, setupOf};
+use crate::cards::{card_in, counted, is_within, some_card};
 use crate::numbers::*;
 
 // It goes in and comes back by value.
@@ -37,4 +36,76 @@ fn pages_known(pages: [u8; 16]) -> bool
         p += 1;
     }
     known
+}
+
+// The other cards drive nothing, and the contenders no more than four lines show.
+fn driving_fits(contenders: u16, driven: [u8; 16]) -> bool
+    ensures { λ r. ⌜ r ≡ drivingFits contenders driven ⌝ }
+{
+    let mut fits = true;
+    let mut n: u8 = 0;
+    while n < 16 {
+        fits = fits & (driven[n as usize] <= counted(contenders, n, 15));
+        n += 1;
+    }
+    fits
+}
+
+impl Bus {
+    // Refused, it answers a bus with no cards and all pages absent.
+    pub fn setup(fitted: u16, pages: [u8; 16]) -> Made
+        ensures { λ r. ⌜ r ≡ setupOf fitted pages ⌝ }
+    {
+        if pages_known(pages) {
+            Made {
+                answer: ACCEPTED,
+                bus: Bus::freed(fitted, pages),
+            }
+        } else {
+            Made {
+                answer: BAD_PAGE,
+                bus: Bus::freed(0, [0; 16]),
+            }
+        }
+    }
+
+    fn freed(fitted: u16, pages: [u8; 16]) -> Bus
+        ensures { λ r. ⌜ r ≡ freeBus fitted pages ⌝ }
+    {
+        Bus {
+            fitted: fitted,
+            pages: pages,
+            phase: FREE,
+            contenders: 0,
+            driven: [0; 16],
+            granted: NOBODY,
+        }
+    }
+
+    pub fn makes_sense(self) -> bool
+        ensures { λ r. ⌜ r ≡ makesSense self ⌝ }
+    {
+        let pages = self.pages;
+        let driven = self.driven;
+        pages_known(pages)
+            & (self.phase <= TRANSFER_TWO)
+            & self.contention_fits()
+            & driving_fits(self.contenders, driven)
+            & self.grant_fits()
+    }
+
+    fn contention_fits(self) -> bool
+        ensures { λ r. ⌜ r ≡ contentionFits self ⌝ }
+    {
+        let arbitrates = self.phase == ARBITRATION;
+        let some = some_card(self.contenders);
+        is_within(self.contenders, self.fitted) & (!arbitrates | some) & (arbitrates | !some)
+    }
+
+    fn grant_fits(self) -> bool
+        ensures { λ r. ⌜ r ≡ grantFits self ⌝ }
+    {
+        let held = (GRANTED <= self.phase) & (self.phase <= TRANSFER_TWO);
+        (!held | card_in(self.fitted, self.granted)) & (held | (self.granted == NOBODY))
+    }
 }

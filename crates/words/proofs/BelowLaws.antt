@@ -39,13 +39,13 @@ pub or-start : (f : ℕ → ℕ) → 0 ≡ orBelow f 0
 unfolding orBelow
 or-start f = refl
 
-pub all-next : (test : ℕ → Bool) (n : ℕ) {ok : Bool} → ok ≡ allBelow test n → (ok && test n) ≡ allBelow test (n + 1)
+pub all-next : (test : ℕ → Bool) (n : ℕ) {ok passes : Bool} → ok ≡ allBelow test n → passes ≡ test n → (ok && passes) ≡ allBelow test (n + 1)
 unfolding allBelow
-all-next test n e = ap (λ (b : Bool). b && test n) e ∙ ap (allBelow test) (sym (add-one n))
+all-next test n e t = ap₂ _&&_ e t ∙ ap (allBelow test) (sym (add-one n))
 
-pub or-next : (f : ℕ → ℕ) (n : ℕ) {so-far : ℕ} → so-far ≡ orBelow f n → bitOr so-far (f n) ≡ orBelow f (n + 1)
+pub or-next : (f : ℕ → ℕ) (n : ℕ) {so-far x : ℕ} → so-far ≡ orBelow f n → x ≡ f n → bitOr so-far x ≡ orBelow f (n + 1)
 unfolding orBelow
-or-next f n e = ap (λ (x : ℕ). bitOr x (f n)) e ∙ ap (orBelow f) (sym (add-one n))
+or-next f n e t = ap₂ bitOr e t ∙ ap (orBelow f) (sym (add-one n))
 
 pub at-bound : {A : Type 0} (f : ℕ → A) {found : A} {n m : ℕ} → found ≡ f n → n ≤ m → m ≤ n → found ≡ f m
 at-bound f e h l = e ∙ ap f (le-antisymm h l)

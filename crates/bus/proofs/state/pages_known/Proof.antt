@@ -29,5 +29,5 @@ pages-known-spec =
     (λ c. omega arith)
     (λ c. omega arith)
     (λ c. omega arith)
-    (λ c. (omega arith, all-next _ _ (c .before .loop .inv .1)))
+    (λ c. (omega arith, all-next _ _ (c .before .loop .inv .1) refl))
     (λ c. at-bound (allBelow _) (c .before .loop .inv .1) (omega arith) (omega arith)))

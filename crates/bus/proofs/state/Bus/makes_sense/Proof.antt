@@ -1,0 +1,17 @@
+-- From what the calls ensure, and from the length of the arrays.
+use borrow.Author.Needs.{needs}
+use Rattle.bus.proofs.SenseLaws.{sense-of-arrays}
+use Rattle.bus.proofs.state.Bus.makes_sense.Statement.{statement}
+use Rattle.bus.proofs.state.Bus.makes_sense.Tie as tie
+use Rattle.bus.proofs.state.Bus.makes_sense.Reads as reads
+use Rattle.bus.proofs.state.Bus.makes_sense.Lts as lts
+
+pub makes-sense-spec : {M : Type 1} → statement M
+makes-sense-spec =
+    tie.close
+    (tie.spec
+    (λ c κs. search needs)
+    (λ c κs. search needs)
+    (λ c κs. search needs)
+    (λ c κs. search needs)
+    (λ c. cc (sense-of-arrays (c .before .before .before .before .before .before .before .args .self) (search needs) (search needs))))

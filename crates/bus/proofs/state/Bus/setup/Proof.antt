@@ -1,0 +1,17 @@
+-- By whether the page codes are known.
+use mathlib.Core.Path.{sym, _∙_}
+use borrow.Author.Needs.{needs}
+use Rattle.bus.proofs.state.Bus.setup.Statement.{statement}
+use Rattle.bus.proofs.state.Bus.setup.Tie as tie
+use Rattle.bus.proofs.state.Bus.setup.Reads as reads
+use Rattle.bus.proofs.state.Bus.setup.Lts as lts
+
+pub setup-spec : {M : Type 1} → statement M
+setup-spec =
+    tie.close
+    (tie.spec
+    (λ c κs. search needs)
+    (λ c κs. search needs)
+    (λ c κs. search needs)
+    (λ c. rw (sym (c .before .before .pages-known .ensures) ∙ c .before .if1 .taken, c .freed .ensures))
+    (λ c. rw (sym (c .before .before .pages-known .ensures) ∙ c .before .if1 .left, c .freed2 .ensures)))
