@@ -1,11 +1,11 @@
 -- Sets of sixteen cards: the short tests of the code say the same as the definitions, which ask card by card.
 use Prim.Native.Nat.{ℕ, _<_, _^_}
 use mathlib.Core.Path.{_≡_, refl, sym, subst, ap, ap₂, _∙_}
-use mathlib.Core.Bool.{Bool, true, false, not, _&&_, _||_}
-use lib.Dec.{eqb}
+use mathlib.Core.Bool.{Bool, true, false, not, _||_, and-eq-true-iff}
+use lib.Dec.{eqb, ltb}
 use lib.Bits.{bitOr, or-lt}
 use lib.Pow.{pow-pos}
-use borrow.Author.Tests.{lt-ltb, eqb-true, eq-eqb, not-true}
+use borrow.Author.Tests.{ltb-true, lt-ltb, eqb-true, eq-eqb, not-true}
 use Rattle.words.specs.Bits.{bitAt}
 use Rattle.words.specs.Below.{allBelow}
 use Rattle.words.proofs.TestLaws.{tests-same}
@@ -20,6 +20,10 @@ adds-nothing false b e = refl
 added-none : (a b : Bool) → (not a || b) ≡ true → (a || b) ≡ b
 added-none true b e = sym e
 added-none false b e = refl
+
+-- who is in a set is one of the sixteen
+pub card-below : (cards n : ℕ) → cardIn cards n ≡ true → n < 16
+card-below cards n e = ltb-true n 16 (and-eq-true-iff (ltb n 16) (bitAt cards n) .0 e .0)
 
 pub card-bit : (cards n : ℕ) → n < 16 → cardIn cards n ≡ bitAt cards n
 card-bit cards n h = rw (lt-ltb n 16 h)

@@ -2,3 +2,4 @@
 pub mod CardLaws
 pub mod Look
 pub mod SenseLaws
+pub mod TableRules

@@ -1,4 +1,4 @@
--- Read in this order: the numbers of 01; sets of cards; the state; its sense and setup; the steps; the tables; settle.
+-- Read in this order: phases, refusals and sets of cards; the state, its sense and setup; the steps; signals, drivers, status and control outputs.
 pub mod Phase
 pub mod Refusal
 pub mod Cards
@@ -6,3 +6,7 @@ pub mod State
 pub mod Sense
 pub mod Setup
 pub mod Steps
+pub mod Signal
+pub mod Driver
+pub mod Status
+pub mod Control

@@ -20,3 +20,9 @@ pub const WRONG_PHASE: u8 = 0x06;
 pub const NOT_ITS_TURN: u8 = 0x07;
 pub const UNSETTLED: u8 = 0x08;
 pub const BAD_PAGE: u8 = 0x0B;
+
+// Who drives a group of lines.
+pub const NO_DRIVER: u8 = 0;
+pub const PERMANENT: u8 = 1;
+pub const CARD: u8 = 2;
+pub const BOTH: u8 = 3;

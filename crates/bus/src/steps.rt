@@ -1,1 +1,129 @@
-// to come
+// What the cards and the permanent master do to the bus, a method each. Called in a phase or by a card in which the events will refuse it, a
+// method hands the state back as given.
+ghost use mathlib.Core.Path.{_≡_};
+ghost use Rattle.bus.specs.Steps.{
+  mayRequest,
+  requested,
+  lookedBy,
+  mayAcknowledge,
+  acknowledged,
+  mayHand,
+  handed,
+  transferOneBegun,
+  busTaken,
+  transferTwoBegun,
+  givenBack,
+  resetTo,
+};
+use crate::cards::{card_in, is_within, some_card};
+use crate::numbers::*;
+use crate::priority::look_at;
+use crate::state::Bus;
+
+impl Bus {
+    // These cards ask for the bus together.
+    pub fn request(mut self, cards: u16) -> Bus
+        ensures { λ r. ⌜ r ≡ requested self cards ⌝ }
+    {
+        if self.may_request(cards) {
+            self.phase = ARBITRATION;
+            self.contenders = cards;
+            self.driven = [0; 16];
+        }
+        self
+    }
+
+    fn may_request(self, cards: u16) -> bool
+        ensures { λ r. ⌜ r ≡ mayRequest self cards ⌝ }
+    {
+        (self.phase == FREE) & some_card(cards) & is_within(cards, self.fitted)
+    }
+
+    // A contender looks at the lines, and sets what it drives.
+    pub fn look(mut self, card: u8) -> Bus
+        ensures { λ r. ⌜ r ≡ lookedBy self card ⌝ }
+    {
+        if self.phase == ARBITRATION {
+            if card_in(self.contenders, card) {
+                let lines = self.lines();
+                self.driven[card as usize] = look_at(card, lines);
+            }
+        }
+        self
+    }
+
+    // The permanent master answers HOLD: the contender whose number the settled lines show is granted.
+    pub fn acknowledge(mut self) -> Bus
+        ensures { λ r. ⌜ r ≡ acknowledged self ⌝ }
+    {
+        if self.may_acknowledge() {
+            let winner = self.lines();
+            self.granted = winner;
+            self.phase = GRANTED;
+            self.contenders = 0;
+            self.driven = [0; 16];
+        }
+        self
+    }
+
+    fn may_acknowledge(self) -> bool
+        ensures { λ r. ⌜ r ≡ mayAcknowledge self ⌝ }
+    {
+        (self.phase == ARBITRATION) & some_card(self.contenders) & self.is_settled()
+    }
+
+    pub fn begin_transfer_one(self, card: u8) -> Bus
+        ensures { λ r. ⌜ r ≡ transferOneBegun self card ⌝ }
+    {
+        self.hand(GRANTED, TRANSFER_ONE, card)
+    }
+
+    pub fn take_bus(self, card: u8) -> Bus
+        ensures { λ r. ⌜ r ≡ busTaken self card ⌝ }
+    {
+        self.hand(TRANSFER_ONE, OWNED, card)
+    }
+
+    pub fn begin_transfer_two(self, card: u8) -> Bus
+        ensures { λ r. ⌜ r ≡ transferTwoBegun self card ⌝ }
+    {
+        self.hand(OWNED, TRANSFER_TWO, card)
+    }
+
+    pub fn give_back(mut self, card: u8) -> Bus
+        ensures { λ r. ⌜ r ≡ givenBack self card ⌝ }
+    {
+        if self.may_hand(TRANSFER_TWO, card) {
+            self.phase = FREE;
+            self.granted = NOBODY;
+        }
+        self
+    }
+
+    // The granted card leads from one phase to another.
+    fn hand(mut self, from: u8, to: u8, card: u8) -> Bus
+        ensures { λ r. ⌜ r ≡ handed self from to card ⌝ }
+    {
+        if self.may_hand(from, card) {
+            self.phase = to;
+        }
+        self
+    }
+
+    fn may_hand(self, from: u8, card: u8) -> bool
+        ensures { λ r. ⌜ r ≡ mayHand self from card ⌝ }
+    {
+        (self.phase == from) & (self.granted == card)
+    }
+
+    // Fitted cards and pages stay; contention and grant end.
+    pub fn reset(mut self) -> Bus
+        ensures { λ r. ⌜ r ≡ resetTo self ⌝ }
+    {
+        self.phase = FREE;
+        self.contenders = 0;
+        self.driven = [0; 16];
+        self.granted = NOBODY;
+        self
+    }
+}

@@ -2,11 +2,14 @@
 use mathlib.Core.Path.{_≡_, refl, sym, ap, ap₂, _∙_}
 use mathlib.Core.Logic.{_⊎_, ⊎-elim}
 use mathlib.Core.Bool.{Bool, true, false, not, _&&_, _||_, and-eq-true-iff}
-use Prim.Native.Nat.{ℕ, zero, suc, _+_, _/_, _^_, _<_, _≤_}
+use Prim.Native.Nat.{ℕ, zero, suc, _+_, _-_, _/_, _^_, _<_, _≤_}
 use native.Mathlib.Nat.{not-suc-le-zero, le-antisymm, le-of-suc-le-suc, eq-or-lt-of-le, le-step, lt-suc-self}
 use native.Mathlib.Numerals.{add-one}
+use native.Mathlib.Omega.{arith}
+use lib.Dec.{eqb}
 use lib.Pow.{pow-pos}
 use lib.Bits.{bitOr, or-shr, or-lt, or-comm}
+use borrow.Author.Tests.{eqb-true}
 use Rattle.words.specs.Bits.{bitAt}
 use Rattle.words.specs.Below.{allBelow, orBelow}
 use Rattle.words.proofs.BitLaws.{bit-above, bit-or, bitOr-assoc}
@@ -54,6 +57,24 @@ pub all-same : (f g : ℕ → Bool) (n : ℕ) → ((k : ℕ) → k < n → f k �
 unfolding allBelow
 all-same f g zero each = refl
 all-same f g (suc n) each = ap₂ _&&_ (all-same f g n (λ k h. each k (le-step h))) (each n (lt-suc-self n))
+
+-- ---- A table's rule, computed once over all of its places
+
+pub same-below : (f g : ℕ → ℕ) (n : ℕ) → allBelow (λ k. eqb (f k) (g k)) n ≡ true → (k : ℕ) → k < n → f k ≡ g k
+same-below f g n test k h = eqb-true (f k) (g k) (all-at (λ i. eqb (f i) (g i)) n test k h)
+
+-- of a table of tables
+pub same-in-rows : (f g : ℕ → ℕ → ℕ) (m n : ℕ) → allBelow (λ j. allBelow (λ k. eqb (f j k) (g j k)) n) m ≡ true
+    → (j k : ℕ) → j < m → k < n → f j k ≡ g j k
+same-in-rows f g m n test j k hj hk =
+    same-below (f j) (g j) n (all-at (λ i. allBelow (λ q. eqb (f i q) (g i q)) n) m test j hj) k hk
+
+-- beyond a table of m places, as far as its index can go
+pub none-beyond : (f : ℕ → ℕ) (m n : ℕ) → allBelow (λ k. eqb 0 (f (m + k))) n ≡ true → (k : ℕ) → m ≤ k → k < m + n → 0 ≡ f k
+none-beyond f m n test k l h =
+    same-below (λ i. 0) (λ i. f (m + i)) n test (k - m) (omega arith) ∙ (let e : m + (k - m) ≡ k = omega arith in ap f e)
+
+-- ---- The OR of many
 
 -- an OR of many has a zero exactly where each of them has
 pub or-below-bit : (f : ℕ → ℕ) (k n : ℕ) → not (bitAt (orBelow f n) k) ≡ allBelow (λ q. not (bitAt (f q) k)) n

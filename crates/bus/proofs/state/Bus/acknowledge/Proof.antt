@@ -1,0 +1,16 @@
+-- By whether the acknowledge may be given.
+use mathlib.Core.Path.{sym, _∙_}
+use borrow.Author.Needs.{needs}
+use Rattle.bus.proofs.state.Bus.acknowledge.Statement.{statement}
+use Rattle.bus.proofs.state.Bus.acknowledge.Tie as tie
+use Rattle.bus.proofs.state.Bus.acknowledge.Reads as reads
+use Rattle.bus.proofs.state.Bus.acknowledge.Lts as lts
+
+pub acknowledge-spec : {M : Type 1} → statement M
+acknowledge-spec =
+    tie.close
+    (tie.spec
+    (λ c κs. search needs)
+    (λ c κs. search needs)
+    (λ c. rw (sym (c .before .before .before .may-acknowledge .ensures) ∙ c .before .before .if1 .taken, c .before .lines .ensures))
+    (λ c. rw (sym (c .before .may-acknowledge .ensures) ∙ c .if1 .left)))
