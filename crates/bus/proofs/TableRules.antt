@@ -66,10 +66,11 @@ strobe-beyond = none-beyond strobeOf 16 240 refl
 pub control-fits : (phase kind : ℕ) → cond (allowsCycles phase) (strobeOf kind) 0 + cond (isAcknowledged phase) pHLDA 0 < 256
 unfolding strobeOf
 control-fits phase kind =
-    omega
-    (arith,
-    at-most (allowsCycles phase) (strobeOf kind) 0 (at-most (isReading kind) 4 _ (lit≤ tt) (at-most (isWriting kind) 8 0 (lit≤ tt) (lit≤ tt))) (lit≤ tt),
-    at-most (isAcknowledged phase) pHLDA 0 (lit≤ tt) (lit≤ tt))
+    omega (
+      arith,
+      at-most (allowsCycles phase) (strobeOf kind) 0 (at-most (isReading kind) 4 _ (lit≤ tt) (at-most (isWriting kind) 8 0 (lit≤ tt) (lit≤ tt))) (lit≤ tt),
+      at-most (isAcknowledged phase) pHLDA 0 (lit≤ tt) (lit≤ tt),
+    )
   where
     at-most : (b : Bool) (x y : ℕ) → x ≤ 16 → y ≤ 16 → cond b x y ≤ 16
     at-most true x y hx hy = hx

@@ -1,4 +1,4 @@
--- Read in this order: phases, refusals and sets of cards; the state, its sense and setup; the steps; signals, drivers, status and control outputs.
+-- Read in this order: phases, refusals and sets of cards; the state, its sense and setup; the steps; signals, drivers, status and control outputs; settle.
 pub mod Phase
 pub mod Refusal
 pub mod Cards
@@ -10,3 +10,4 @@ pub mod Signal
 pub mod Driver
 pub mod Status
 pub mod Control
+pub mod Settle

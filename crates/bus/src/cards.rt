@@ -6,11 +6,7 @@ ghost use Rattle.bus.specs.Cards.{cardIn, someCard, isWithin};
 pub fn card_in(cards: u16, n: u8) -> bool
     ensures { λ r. ⌜ r ≡ cardIn cards n ⌝ }
 {
-    if n < 16 {
-        (cards >> n) % 2 == 1
-    } else {
-        false
-    }
+    if n < 16 { (cards >> n) % 2 == 1 } else { false }
 }
 
 pub fn some_card(cards: u16) -> bool
@@ -29,9 +25,5 @@ pub fn is_within(cards: u16, others: u16) -> bool
 pub fn counted(cards: u16, n: u8, value: u8) -> u8
     ensures { λ r. ⌜ r ≡ cond (cardIn cards n) value 0 ⌝ }
 {
-    if card_in(cards, n) {
-        value
-    } else {
-        0
-    }
+    if card_in(cards, n) { value } else { 0 }
 }

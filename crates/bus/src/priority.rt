@@ -5,7 +5,8 @@ ghost use lib.Dec.{eqb};
 ghost use Rattle.bus.specs.Cards.{cardIn};
 ghost use Rattle.lines.specs.Look.{look};
 ghost use Rattle.bus.specs.State.{linesOf, isSettled};
-use crate::cards::{card_in, counted};
+use crate::cards::card_in;
+use crate::cards::counted;
 use crate::state::Bus;
 
 // What a card of this number drives once it has looked at these lines.

@@ -2,7 +2,10 @@
 ghost use mathlib.Core.Path.{_≡_};
 ghost use Rattle.bus.specs.Sense.{pagesKnown, contentionFits, drivingFits, grantFits, makesSense};
 ghost use Rattle.bus.specs.Setup.{freeBus, setupOf};
-use crate::cards::{card_in, counted, is_within, some_card};
+use crate::cards::card_in;
+use crate::cards::counted;
+use crate::cards::is_within;
+use crate::cards::some_card;
 use crate::numbers::*;
 
 // It goes in and comes back by value.

@@ -15,7 +15,9 @@ ghost use Rattle.bus.specs.Steps.{
   givenBack,
   resetTo,
 };
-use crate::cards::{card_in, is_within, some_card};
+use crate::cards::card_in;
+use crate::cards::is_within;
+use crate::cards::some_card;
 use crate::numbers::*;
 use crate::priority::look_at;
 use crate::state::Bus;

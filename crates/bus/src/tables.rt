@@ -22,12 +22,42 @@ const SIGNALS: [u8; 6] = [0x00, 0x01, 0x03, 0x1F, 0x3F, 0x1E];
 
 // The status byte, from the kind of event.
 const STATUS: [u8; 16] = [
-    0x00, 0x00, 0x00, 0x00, 0x00, 0x00, 0x01, 0x03, 0x10, 0x01, 0x10, 0x04, 0x18, 0x00, 0x00, 0x00,
+    0x00,
+    0x00,
+    0x00,
+    0x00,
+    0x00,
+    0x00,
+    0x01,
+    0x03,
+    0x10,
+    0x01,
+    0x10,
+    0x04,
+    0x18,
+    0x00,
+    0x00,
+    0x00,
 ];
 
 // The data strobe, from the kind of event: pDBIN or pWR.
 const STROBES: [u8; 16] = [
-    0x00, 0x00, 0x00, 0x00, 0x00, 0x00, 0x04, 0x04, 0x08, 0x04, 0x08, 0x04, 0x08, 0x00, 0x00, 0x00,
+    0x00,
+    0x00,
+    0x00,
+    0x00,
+    0x00,
+    0x00,
+    0x04,
+    0x04,
+    0x08,
+    0x04,
+    0x08,
+    0x04,
+    0x08,
+    0x00,
+    0x00,
+    0x00,
 ];
 
 // Who drives a group of lines in a phase; nobody, where there is no such phase or group.
@@ -57,21 +87,13 @@ pub fn signals(phase: u8) -> u8
 pub fn status(kind: u8) -> u8
     ensures { λ r. ⌜ r ≡ statusOf kind ⌝ }
 {
-    if kind < 16 {
-        STATUS[kind as usize]
-    } else {
-        0
-    }
+    if kind < 16 { STATUS[kind as usize] } else { 0 }
 }
 
 fn strobe(kind: u8) -> u8
     ensures { λ r. ⌜ r ≡ strobeOf kind ⌝ }
 {
-    if kind < 16 {
-        STROBES[kind as usize]
-    } else {
-        0
-    }
+    if kind < 16 { STROBES[kind as usize] } else { 0 }
 }
 
 // MWRT, from the control outputs and the status lines.

@@ -4,3 +4,4 @@ pub mod TestLaws
 pub mod BitLaws
 pub mod BelowLaws
 pub mod ListLaws
+pub mod FirstLaws

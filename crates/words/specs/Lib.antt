@@ -1,4 +1,5 @@
--- The words: bits of a number, all numbers below a bound, numbers in a list.
+-- The words: bits of a number, all numbers below a bound, numbers in a list, the first of several that applies.
 pub mod Bits
 pub mod Below
 pub mod Among
+pub mod First

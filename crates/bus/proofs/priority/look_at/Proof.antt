@@ -25,27 +25,32 @@ look-at-spec =
     (λ c. omega arith)
     (λ c. omega arith)
     (λ c.
-    omega
-    (arith,
-    place-weight (c .before .before .loop .place) 0 0 (c .before .loop-test .taken)))
+    omega (
+      arith,
+      place-weight (c .before .before .loop .place) 0 0 (c .before .loop-test .taken),
+    ))
     (λ c. omega arith)
     (λ c.
-    omega
-    (arith,
-    place-weight (c .before .before .loop .place) 0 0 (c .before .loop-test .taken),
-    look-drives _ _ (c .before .before .before .args .lines) (c .before .loop-test .taken) (c .if1 .taken)))
+    omega (
+      arith,
+      place-weight (c .before .before .loop .place) 0 0 (c .before .loop-test .taken),
+      look-drives _ _ (c .before .before .before .args .lines) (c .before .loop-test .taken) (c .if1 .taken),
+    ))
     (λ c. omega arith)
     (λ c.
-    omega
-    (arith,
-    look-stops _ _ _ (c .before .before .loop-test .taken) (c .before .if1 .left) (c .if2 .taken)))
+    omega (
+      arith,
+      look-stops _ _ _ (c .before .before .loop-test .taken) (c .before .if1 .left) (c .if2 .taken),
+    ))
     (λ c. omega arith)
     (λ c.
-    omega
-    (arith,
-    place-weight (c .before .before .before .loop .place) 0 0 (c .before .before .loop-test .taken),
-    look-passes _ _ _ (c .before .before .loop-test .taken) (c .before .if1 .left) (c .if2 .left)))
+    omega (
+      arith,
+      place-weight (c .before .before .before .loop .place) 0 0 (c .before .before .loop-test .taken),
+      look-passes _ _ _ (c .before .before .loop-test .taken) (c .before .if1 .left) (c .if2 .left),
+    ))
     (λ c.
-    omega
-    (arith,
-    look-ends (c .before .loop .place) (c .before .before .args .number) (c .before .before .args .lines) (c .loop-test .left))))
+    omega (
+      arith,
+      look-ends (c .before .loop .place) (c .before .before .args .number) (c .before .before .args .lines) (c .loop-test .left),
+    )))

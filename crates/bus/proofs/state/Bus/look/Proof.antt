@@ -20,10 +20,11 @@ look-spec =
     (λ c κs. search needs)
     (λ c. card-below _ _ (sym (c .before .before .before .card-in .ensures) ∙ c .before .before .if2 .taken))
     (λ c.
-    rw
-    (eq-eqb _ _ (c .before .before .before .before .if1 .taken),
-    sym (c .before .before .before .card-in .ensures) ∙ c .before .before .if2 .taken,
-    c .look-at .ensures,
-    c .before .lines .ensures))
+    rw (
+      eq-eqb _ _ (c .before .before .before .before .if1 .taken),
+      sym (c .before .before .before .card-in .ensures) ∙ c .before .before .if2 .taken,
+      c .look-at .ensures,
+      c .before .lines .ensures,
+    ))
     (λ c. rw (eq-eqb _ _ (c .before .before .if1 .taken), sym (c .before .card-in .ensures) ∙ c .if2 .left))
     (λ c. rw (ne-eqb _ _ (c .if1 .left))))

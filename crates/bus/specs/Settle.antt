@@ -1,0 +1,65 @@
+-- Settle: looks in list order until the lines are settled (01, "Looking and settling", "Refusals and their order").
+use Prim.Native.Nat.{ℕ, suc}
+use mathlib.Core.Bool.{Bool, cond, not}
+use mathlib.Core.List.{List, [], _∷_, _++_}
+use lib.Dec.{eqb, leb}
+use lib.ListN.{length, getD, take}
+use Rattle.words.specs.Below.{allBelow}
+use Rattle.words.specs.First.{Reason, reason, firstOf, leastBelow}
+use Rattle.bus.specs.Phase as Phase
+use Rattle.bus.specs.Refusal as Refusal
+use Rattle.bus.specs.Cards.{cardIn}
+use Rattle.bus.specs.State.{isSettled}
+use Rattle.bus.specs.Sense.{makesSense}
+use Rattle.bus.specs.Steps.{afterLooksOf}
+use Rattle.bus.specs.declared.state.Bus.{Bus}
+use Rattle.bus.specs.declared.settle.Settlement.{Settlement}
+
+-- ---- The looks
+
+-- the lines are settled after the first n looks of the list; with n = 0, before any
+unfoldable pub settledAfter : Bus → List ℕ → ℕ → Bool
+settledAfter bus cards n = isSettled (afterLooksOf bus (take n cards))
+
+-- the least number of leading looks that settles the lines
+unfoldable pub leadingLooks : Bus → List ℕ → ℕ
+leadingLooks bus cards = leastBelow (settledAfter bus cards) (suc (length cards))
+
+-- no leading part does, the whole list neither
+unfoldable pub neverSettles : Bus → List ℕ → Bool
+neverSettles bus cards = allBelow (λ n. not (settledAfter bus cards n)) (suc (length cards))
+
+-- ---- The refusals
+
+-- the test holds of every card in the list
+unfoldable pub everyListed : (ℕ → Bool) → List ℕ → Bool
+everyListed test cards = allBelow (λ i. test (getD cards i 0)) (length cards)
+
+-- what the whole list is judged for before the first look
+abbrev pub listReasons : Bus → List ℕ → List Reason
+listReasons bus cards =
+    reason Refusal.senseless (not (makesSense bus))
+    ∷ reason Refusal.malformed (not (everyListed (λ card. leb card 15) cards))
+    ∷ reason Refusal.notFitted (not (everyListed (cardIn (bus .fitted)) cards))
+    ∷ reason Refusal.wrongPhase (not (eqb (bus .phase) Phase.arbitration))
+    ∷ reason Refusal.notItsTurn (not (everyListed (cardIn (bus .contenders)) cards))
+    ∷ []
+
+unfoldable pub listRefusal : Bus → List ℕ → ℕ
+listRefusal bus cards = firstOf (listReasons bus cards)
+
+unfoldable pub settleRefusal : Bus → List ℕ → ℕ
+settleRefusal bus cards = firstOf (listReasons bus cards ++ (reason Refusal.unsettled (neverSettles bus cards) ∷ []))
+
+-- ---- The answer
+
+abbrev pub refusedAs : ℕ → Bus → Settlement
+refusedAs number bus = record { answer = number; bus = bus; looks = 0 }
+
+abbrev pub settledBy : ℕ → Bus → List ℕ → Settlement
+settledBy n bus cards = record { answer = Refusal.accepted; bus = afterLooksOf bus (take n cards); looks = n }
+
+unfoldable pub settleOf : Bus → List ℕ → Settlement
+settleOf bus cards =
+    cond (eqb (settleRefusal bus cards) Refusal.accepted) (settledBy (leadingLooks bus cards) bus cards)
+    (refusedAs (settleRefusal bus cards) bus)

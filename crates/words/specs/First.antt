@@ -1,0 +1,22 @@
+-- The first of several that applies: of reasons to refuse, by number, and of the numbers below a bound.
+use Prim.Native.Nat.{ℕ, zero, suc}
+use mathlib.Core.Bool.{Bool, cond}
+use mathlib.Core.List.{List, [], _∷_}
+
+-- a reason to refuse: the number it is given as, and whether it applies
+pub record Reason : Type 0 where
+  pub number : ℕ
+  pub applies : Bool
+
+abbrev pub reason : ℕ → Bool → Reason
+reason number applies = record { number = number; applies = applies }
+
+-- the number of the first reason that applies, or 0 where none does
+unfoldable pub firstOf : List Reason → ℕ
+firstOf [] = 0
+firstOf (r ∷ reasons) = cond (r .applies) (r .number) (firstOf reasons)
+
+-- the least number below the bound that passes the test, or the bound itself where none does
+unfoldable pub leastBelow : (ℕ → Bool) → ℕ → ℕ
+leastBelow test zero = 0
+leastBelow test (suc n) = cond (test 0) 0 (suc (leastBelow (λ k. test (suc k)) n))
