@@ -1,16 +1,17 @@
 -- Sets of sixteen cards: the short tests of the code say the same as the definitions, which ask card by card.
 use Prim.Native.Nat.{ℕ, _<_, _^_}
 use mathlib.Core.Path.{_≡_, refl, sym, subst, ap, ap₂, _∙_}
-use mathlib.Core.Bool.{Bool, true, false, not, _||_, and-eq-true-iff}
+use mathlib.Core.Logic.{_⊎_, inl, inr}
+use mathlib.Core.Bool.{Bool, true, false, not, _||_, and-eq-true-iff, true≢false}
 use lib.Dec.{eqb, ltb}
 use lib.Bits.{bitOr, or-lt}
 use lib.Pow.{pow-pos}
-use borrow.Author.Tests.{ltb-true, lt-ltb, eqb-true, eq-eqb, not-true}
+use borrow.Author.Tests.{ltb-true, lt-ltb, eqb-true, eq-eqb, not-true, not-false}
 use Rattle.words.specs.Bits.{bitAt}
 use Rattle.words.specs.Below.{allBelow}
-use Rattle.words.proofs.TestLaws.{tests-same}
+use Rattle.words.proofs.TestLaws.{true-or-false, tests-same, then-of, of-then}
 use Rattle.words.proofs.BitLaws.{bits-same, bit-above, bit-or}
-use Rattle.words.proofs.BelowLaws.{all-at, all-of}
+use Rattle.words.proofs.BelowLaws.{all-at, all-of, some-not}
 use Rattle.bus.specs.Cards.{cardIn, someCard, isWithin}
 
 adds-nothing : (a b : Bool) → (a || b) ≡ b → (not a || b) ≡ true
@@ -60,3 +61,38 @@ is-within cards others hc ho = tests-same _ _ each whole
     whole e =
         eq-eqb (bitOr cards others) others (bits-same 16 (or-lt 16 cards others hc ho) ho (λ n k.
         both n k ∙ added-none (cardIn cards n) (cardIn others n) (all-at _ 16 e n k) ∙ card-bit others n k))
+
+-- ---- What the tests on sets say of each card
+
+pub within-at : (cards others : ℕ) → isWithin cards others ≡ true → (n : ℕ) → cardIn cards n ≡ true → cardIn others n ≡ true
+unfolding isWithin
+within-at cards others e n c = then-of (cardIn cards n) (cardIn others n) (all-at _ 16 e n (card-below cards n c)) c
+
+pub within-of : (cards others : ℕ) → ((n : ℕ) → cardIn cards n ≡ true → cardIn others n ≡ true) → isWithin cards others ≡ true
+unfolding isWithin
+within-of cards others each = all-of _ 16 (λ n h. of-then (cardIn cards n) (cardIn others n) (each n))
+
+pub some-at : (cards : ℕ) → someCard cards ≡ true → (n : ℕ) × (cardIn cards n ≡ true)
+unfolding someCard
+some-at cards e =
+    let found = some-not (λ n. not (cardIn cards n)) 16 (not-true _ e) in
+    (found .0, not-false _ (found .1 .1))
+
+pub none-at : (cards : ℕ) → someCard cards ≡ false → (n : ℕ) → cardIn cards n ≡ false
+unfolding someCard
+none-at cards e n = go (true-or-false (cardIn cards n))
+  where
+    go : (cardIn cards n ≡ true) ⊎ (cardIn cards n ≡ false) → cardIn cards n ≡ false
+    go (inl c) = not-true _ (all-at _ 16 (not-false _ e) n (card-below cards n c))
+    go (inr f) = f
+
+pub some-of : (cards n : ℕ) → cardIn cards n ≡ true → someCard cards ≡ true
+some-of cards n c = go (true-or-false (someCard cards))
+  where
+    go : (someCard cards ≡ true) ⊎ (someCard cards ≡ false) → someCard cards ≡ true
+    go (inl t) = t
+    go (inr f) = absurd (true≢false (sym c ∙ none-at cards f n))
+
+pub none-of : (cards : ℕ) → ((n : ℕ) → cardIn cards n ≡ false) → someCard cards ≡ false
+unfolding someCard
+none-of cards each = ap not (all-of _ 16 (λ n h. ap not (each n)))

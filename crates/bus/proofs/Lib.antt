@@ -1,7 +1,9 @@
 -- Laws that the functions' proofs cite, and the promises' proofs.
+pub mod Arbitrated
 pub mod CardLaws
 pub mod Look
 pub mod LookRuns
 pub mod SenseLaws
 pub mod SettleLaws
+pub mod Settled
 pub mod TableRules

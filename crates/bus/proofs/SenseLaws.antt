@@ -1,14 +1,128 @@
--- What a state that makes sense is, part by part.
-use mathlib.Core.Path.{_≡_, sym, ap, ap₂, _∙_}
-use mathlib.Core.Bool.{Bool, _&&_}
+-- What a state that makes sense is, sentence by sentence, and that the test says so.
+use Prim.Native.Nat.{ℕ, zero, suc, _<_, _≤_}
+use mathlib.Core.Path.{_≡_, refl, sym, subst, ap, ap₂, _∙_}
+use mathlib.Core.Logic.{_⊎_, inl, inr, ⊎-elim}
+use mathlib.Core.Bool.{Bool, true, false, cond, not, _&&_, _||_, and-eq-true-iff, true≢false, false≢true}
+use mathlib.Core.List.{List}
+use native.Mathlib.Nat.{le-of-eq}
+use native.Mathlib.Decide.{decLt}
+use native.Mathlib.Omega.{arith}
 use lib.Dec.{eqb, leb}
-use lib.ListN.{length}
-use borrow.Author.Tests.{eq-eqb}
+use lib.ListN.{length, getD}
+use borrow.Author.Tests.{leb-true, le-leb, lt-leb, eqb-true, eqb-false, eq-eqb, ne-eqb, not-true}
+use Rattle.words.specs.Below.{allBelow}
+use Rattle.words.proofs.TestLaws.{true-or-false, all-three, then-of, else-of, of-then, of-else}
+use Rattle.words.proofs.BelowLaws.{all-at, all-of}
+use Rattle.bus.specs.Phase as Phase
+use Rattle.bus.specs.Cards.{cardIn, someCard, isWithin}
+use Rattle.bus.specs.State.{nobody}
 use Rattle.bus.specs.Sense.{hasSixteen, pagesKnown, contentionFits, drivingFits, grantFits, makesSense}
+use Rattle.bus.specs.Promises.{Sensible, SenseMeans}
 use Rattle.bus.specs.declared.state.Bus.{Bus}
+use Rattle.bus.proofs.CardLaws.{card-below, within-at, within-of, some-at, none-at, some-of, none-of}
 
 -- where the arrays have sixteen entries, the other tests decide
 pub sense-of-arrays : (bus : Bus) → length (bus .pages) ≡ 16 → length (bus .driven) ≡ 16
     → (pagesKnown (bus .pages) && leb (bus .phase) 5 && contentionFits bus && drivingFits (bus .contenders) (bus .driven) && grantFits bus) ≡ makesSense bus
 unfolding makesSense
 sense-of-arrays bus pages driven = rw (eq-eqb _ _ pages, eq-eqb _ _ driven)
+
+module _ (bus : Bus) where
+  arbitrates : Bool
+  arbitrates = eqb (bus .phase) Phase.arbitration
+
+  held : Bool
+  held = Phase.isFrom Phase.granted Phase.transferTwo (bus .phase)
+
+  -- ---- From the test to the sentences
+
+  six : makesSense bus ≡ true
+      → ((hasSixteen bus ≡ true) × ((pagesKnown (bus .pages) ≡ true) × (leb (bus .phase) 5 ≡ true)))
+      × ((contentionFits bus ≡ true) × ((drivingFits (bus .contenders) (bus .driven) ≡ true) × (grantFits bus ≡ true)))
+  unfolding makesSense
+  six e =
+      let last =
+      all-three (hasSixteen bus && pagesKnown (bus .pages) && leb (bus .phase) 5 && contentionFits bus) (drivingFits (bus .contenders) (bus .driven))
+      (grantFits bus)
+      e in
+      let first =
+      and-eq-true-iff (hasSixteen bus && pagesKnown (bus .pages) && leb (bus .phase) 5) (contentionFits bus) .0 (last .0) in
+      (all-three (hasSixteen bus) (pagesKnown (bus .pages)) (leb (bus .phase) 5) (first .0), (first .1, last .1))
+
+  drives : makesSense bus ≡ true → (n : ℕ) → n < 16 → getD (bus .driven) n 0 ≤ cond (cardIn (bus .contenders) n) 15 0
+  unfolding drivingFits
+  drives e n h = leb-true _ _ (all-at _ 16 (six e .1 .1 .0) n h)
+
+  sensible : makesSense bus ≡ true → Sensible bus
+  unfolding pagesKnown arbitrates held
+  sensible e = record {
+    sixteenPages = eqb-true _ _ (sizes .0);
+    sixteenLevels = eqb-true _ _ (sizes .1);
+    codes = λ p h. leb-true _ _ (all-at _ 16 (six e .0 .1 .0) p h);
+    phases = leb-true _ _ (six e .0 .1 .1);
+    contendersFitted = within-at (bus .contenders) (bus .fitted) (contention .0);
+    someInArbitration = λ a. some-at (bus .contenders) (then-of arbitrates (someCard (bus .contenders)) (contention .1 .0) (eq-eqb _ _ a));
+    noneElsewhere = λ a. none-at (bus .contenders) (not-true _ (else-of arbitrates (not (someCard (bus .contenders))) (contention .1 .1) (ne-eqb _ _ a)));
+    contenderDrives = λ n c. subst (λ (b : Bool). getD (bus .driven) n 0 ≤ cond b 15 0) c (drives e n (card-below _ n c));
+    idleDrives = λ n h c. let none : getD (bus .driven) n 0 ≤ 0 = subst (λ (b : Bool). getD (bus .driven) n 0 ≤ cond b 15 0) c (drives e n h) in omega arith;
+    grantedFitted = λ h. then-of held (cardIn (bus .fitted) (bus .granted)) (grant .0) (rw (le-leb 2 (bus .phase) h) (six e .0 .1 .1));
+    nobodyElsewhere = λ h. eqb-true _ _ (else-of held (eqb (bus .granted) nobody) (grant .1) (rw (lt-leb 2 (bus .phase) h)));
+  }
+    where
+      sizes : (eqb (length (bus .pages)) 16 ≡ true) × (eqb (length (bus .driven)) 16 ≡ true)
+      sizes = and-eq-true-iff (eqb (length (bus .pages)) 16) (eqb (length (bus .driven)) 16) .0 (six e .0 .0)
+
+      contention : (isWithin (bus .contenders) (bus .fitted) ≡ true)
+          × (((not arbitrates || someCard (bus .contenders)) ≡ true) × ((arbitrates || not (someCard (bus .contenders))) ≡ true))
+      contention =
+          all-three (isWithin (bus .contenders) (bus .fitted)) (not arbitrates || someCard (bus .contenders))
+          (arbitrates || not (someCard (bus .contenders)))
+          (six e .1 .0)
+
+      grant : ((not held || cardIn (bus .fitted) (bus .granted)) ≡ true) × ((held || eqb (bus .granted) nobody) ≡ true)
+      grant = and-eq-true-iff (not held || cardIn (bus .fitted) (bus .granted)) (held || eqb (bus .granted) nobody) .0 (six e .1 .1 .1)
+
+  -- ---- From the sentences to the test
+
+  together : hasSixteen bus ≡ true → pagesKnown (bus .pages) ≡ true → leb (bus .phase) 5 ≡ true → contentionFits bus ≡ true
+      → drivingFits (bus .contenders) (bus .driven) ≡ true → grantFits bus ≡ true → makesSense bus ≡ true
+  unfolding makesSense
+  together a b c d e f = also (also (also (also (also a b) c) d) e) f
+    where
+      also : {x y : Bool} → x ≡ true → y ≡ true → (x && y) ≡ true
+      also {x} {y} ex ey = and-eq-true-iff x y .1 (ex, ey)
+
+  makes-sense : Sensible bus → makesSense bus ≡ true
+  unfolding pagesKnown drivingFits arbitrates held
+  makes-sense s =
+      together
+      (and-eq-true-iff _ _ .1 (eq-eqb _ _ (s .sixteenPages), eq-eqb _ _ (s .sixteenLevels)))
+      (all-of _ 16 (λ p h. le-leb _ _ (s .codes p h)))
+      (le-leb _ _ (s .phases))
+      (and-eq-true-iff _ _ .1 (and-eq-true-iff _ _ .1 (within-of _ _ (s .contendersFitted), of-then arbitrates _ some), of-else arbitrates _ none))
+      (all-of _ 16 (λ n h. le-leb _ _ (drives-at n h (true-or-false (cardIn (bus .contenders) n)))))
+      (and-eq-true-iff _ _ .1 (of-then held _ fitted, of-else held _ nobody-then))
+    where
+      some : arbitrates ≡ true → someCard (bus .contenders) ≡ true
+      some a = let found = s .someInArbitration (eqb-true _ _ a) in some-of (bus .contenders) (found .0) (found .1)
+
+      none : arbitrates ≡ false → not (someCard (bus .contenders)) ≡ true
+      none a = ap not (none-of (bus .contenders) (s .noneElsewhere (eqb-false _ _ a)))
+
+      drives-at : (n : ℕ) → n < 16 → (cardIn (bus .contenders) n ≡ true) ⊎ (cardIn (bus .contenders) n ≡ false)
+          → getD (bus .driven) n 0 ≤ cond (cardIn (bus .contenders) n) 15 0
+      drives-at n h (inl c) = subst (λ (b : Bool). getD (bus .driven) n 0 ≤ cond b 15 0) (sym c) (s .contenderDrives n c)
+      drives-at n h (inr c) = subst (λ (b : Bool). getD (bus .driven) n 0 ≤ cond b 15 0) (sym c) (le-of-eq (s .idleDrives n h c))
+
+      fitted : held ≡ true → cardIn (bus .fitted) (bus .granted) ≡ true
+      fitted h = s .grantedFitted (leb-true _ _ (and-eq-true-iff (leb 2 (bus .phase)) (leb (bus .phase) 5) .0 h .0))
+
+      nobody-then : held ≡ false → eqb (bus .granted) nobody ≡ true
+      nobody-then h = eq-eqb _ _ (s .nobodyElsewhere (before (decLt (bus .phase) 2) h))
+        where
+          before : Dec (bus .phase < 2) → held ≡ false → bus .phase < 2
+          before (yes l) f = l
+          before (no l) f = absurd (true≢false (sym (and-eq-true-iff (leb 2 (bus .phase)) (leb (bus .phase) 5) .1 (le-leb 2 (bus .phase) (omega arith), le-leb _ _ (s .phases))) ∙ f))
+
+pub sense-means : SenseMeans
+sense-means bus = (sensible bus, makes-sense bus)

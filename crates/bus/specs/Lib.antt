@@ -1,4 +1,4 @@
--- Read in this order: phases, refusals and sets of cards; the state, its sense and setup; the steps; signals, drivers, status and control outputs; settle.
+-- Read in this order: phases, refusals and sets of cards; the state, its sense and setup; the steps; signals, drivers, status and control outputs; settle; all methods together; what is promised of them.
 pub mod Phase
 pub mod Refusal
 pub mod Cards
@@ -11,3 +11,5 @@ pub mod Driver
 pub mod Status
 pub mod Control
 pub mod Settle
+pub mod Method
+pub mod Promises

@@ -35,21 +35,45 @@ neverSettles bus cards = allBelow (λ n. not (settledAfter bus cards n)) (suc (l
 unfoldable pub everyListed : (ℕ → Bool) → List ℕ → Bool
 everyListed test cards = allBelow (λ i. test (getD cards i 0)) (length cards)
 
--- what the whole list is judged for before the first look
+-- 02
+abbrev pub isSenseless : Bus → Bool
+isSenseless bus = not (makesSense bus)
+
+-- 03: a number above 15
+abbrev pub namesNoCard : List ℕ → Bool
+namesNoCard cards = not (everyListed (λ card. leb card 15) cards)
+
+-- 05: a card that isn't fitted
+abbrev pub namesUnfitted : Bus → List ℕ → Bool
+namesUnfitted bus cards = not (everyListed (cardIn (bus .fitted)) cards)
+
+-- 06: outside arbitration
+abbrev pub isElsewhere : Bus → Bool
+isElsewhere bus = not (eqb (bus .phase) Phase.arbitration)
+
+-- 07: a card that doesn't contend
+abbrev pub namesIdle : Bus → List ℕ → Bool
+namesIdle bus cards = not (everyListed (cardIn (bus .contenders)) cards)
+
+-- what the state and the whole list are judged for before the first look, the lowest number first
 abbrev pub listReasons : Bus → List ℕ → List Reason
 listReasons bus cards =
-    reason Refusal.senseless (not (makesSense bus))
-    ∷ reason Refusal.malformed (not (everyListed (λ card. leb card 15) cards))
-    ∷ reason Refusal.notFitted (not (everyListed (cardIn (bus .fitted)) cards))
-    ∷ reason Refusal.wrongPhase (not (eqb (bus .phase) Phase.arbitration))
-    ∷ reason Refusal.notItsTurn (not (everyListed (cardIn (bus .contenders)) cards))
+    reason Refusal.senseless (isSenseless bus)
+    ∷ reason Refusal.malformed (namesNoCard cards)
+    ∷ reason Refusal.notFitted (namesUnfitted bus cards)
+    ∷ reason Refusal.wrongPhase (isElsewhere bus)
+    ∷ reason Refusal.notItsTurn (namesIdle bus cards)
     ∷ []
+
+-- and what the looks are
+abbrev pub settleReasons : Bus → List ℕ → List Reason
+settleReasons bus cards = listReasons bus cards ++ (reason Refusal.unsettled (neverSettles bus cards) ∷ [])
 
 unfoldable pub listRefusal : Bus → List ℕ → ℕ
 listRefusal bus cards = firstOf (listReasons bus cards)
 
 unfoldable pub settleRefusal : Bus → List ℕ → ℕ
-settleRefusal bus cards = firstOf (listReasons bus cards ++ (reason Refusal.unsettled (neverSettles bus cards) ∷ []))
+settleRefusal bus cards = firstOf (settleReasons bus cards)
 
 -- ---- The answer
 

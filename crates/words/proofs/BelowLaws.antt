@@ -1,7 +1,7 @@
 -- The laws of `allBelow` and `orBelow`: one entry out of all, all from each, and what the OR of many numbers is.
 use mathlib.Core.Path.{_≡_, refl, sym, ap, ap₂, _∙_}
 use mathlib.Core.Logic.{_⊎_, ⊎-elim}
-use mathlib.Core.Bool.{Bool, true, false, not, _&&_, _||_, and-eq-true-iff}
+use mathlib.Core.Bool.{Bool, true, false, not, _&&_, _||_, and-eq-true-iff, true≢false}
 use Prim.Native.Nat.{ℕ, zero, suc, _+_, _-_, _/_, _^_, _<_, _≤_}
 use native.Mathlib.Nat.{not-suc-le-zero, le-antisymm, le-of-suc-le-suc, eq-or-lt-of-le, le-step, lt-suc-self}
 use native.Mathlib.Numerals.{add-one}
@@ -31,6 +31,16 @@ module _ (test : ℕ → Bool) where
   all-of zero each = refl
   all-of (suc n) each =
       and-eq-true-iff (allBelow test n) (test n) .1 (all-of n (λ k h. each k (le-step h)), each n (lt-suc-self n))
+
+-- where not all pass, one does not
+pub some-not : (test : ℕ → Bool) (n : ℕ) → allBelow test n ≡ false → (k : ℕ) × ((k < n) × (test k ≡ false))
+unfolding allBelow
+some-not test zero e = absurd (true≢false e)
+some-not test (suc n) e = go (allBelow test n) (some-not test n) e
+  where
+    go : (b : Bool) → (b ≡ false → (k : ℕ) × ((k < n) × (test k ≡ false))) → (b && test n) ≡ false → (k : ℕ) × ((k < suc n) × (test k ≡ false))
+    go true below f = (n, (lt-suc-self n, f))
+    go false below f = let found = below refl in (found .0, (le-step (found .1 .0), found .1 .1))
 
 -- Going through the numbers in order, as a loop does: at first nothing is asked; what is found so far, with the next one, is what is found one
 -- further; and what is found when the bound has been reached is found of all.

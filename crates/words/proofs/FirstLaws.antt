@@ -1,17 +1,19 @@
 -- The laws of `firstOf` and `leastBelow`.
 use Prim.Native.Nat.{ℕ, zero, suc, suc-le-suc, _<_, _≤_}
-use mathlib.Core.Path.{_≡_, refl, sym, ap, _∙_}
-use mathlib.Core.Bool.{Bool, true, false, cond, not, true≢false}
+use mathlib.Core.Path.{_≡_, refl, sym, subst, ap, _∙_}
+use mathlib.Core.Logic.{_⊎_, inl, inr, ⊎-elim}
+use mathlib.Core.Bool.{Bool, true, false, cond, _&&_, _||_, and-eq-true-iff, true≢false}
 use mathlib.Core.List.{List, [], _∷_, _++_}
-use native.Mathlib.Nat.{not-suc-le-zero, le-of-suc-le-suc, le-refl, lt-trans}
+use native.Mathlib.Nat.{not-suc-le-zero, le-of-suc-le-suc, le-refl, lt-trans, lt-irrefl, lt-of-le-of-lt}
 use native.Mathlib.Decide.{decLt}
 use native.Mathlib.Omega.{arith}
-use lib.Dec.{eqb}
+use lib.Dec.{eqb, ltb}
 use lib.ListN.{length}
-use borrow.Author.Tests.{ne-eqb}
+use borrow.Author.Tests.{ltb-true, lt-ltb, eqb-true, eq-eqb, ne-eqb}
 use Rattle.words.specs.Below.{allBelow}
-use Rattle.words.specs.First.{Reason, firstOf, leastBelow}
-use Rattle.words.proofs.TestLaws.{true-or-false}
+use Rattle.words.specs.First.{Reason, firstOf, appliesAs, ascendsFrom, leastBelow}
+use Rattle.words.specs.Promises.{FirstByNumber, NoneApplies, LeastPassing}
+use Rattle.words.proofs.TestLaws.{true-or-false, either-of}
 
 -- ---- The first reason
 
@@ -32,6 +34,124 @@ first-append (r ∷ reasons) more n = go (r .applies) (first-append reasons more
         ≡ cond (eqb (cond b (r .number) (firstOf reasons)) 0) (firstOf more) (cond b (r .number) (firstOf reasons))
     go true rest = rw (ne-eqb (r .number) 0 (λ e. omega (arith, n .0)))
     go false rest = rest
+
+-- ---- The first of reasons in the order of their numbers
+
+-- a reason that applies has a number above the bound
+applies-above : (m : ℕ) (reasons : List Reason) → ascendsFrom m reasons ≡ true → (n : ℕ) → appliesAs n reasons ≡ true → m < n
+unfolding ascendsFrom appliesAs
+applies-above m [] a n e = absurd (true≢false (sym e))
+applies-above m (r ∷ reasons) a n e =
+    ⊎-elim
+    (λ own. subst (λ (x : ℕ). m < x) (eqb-true _ _ (and-eq-true-iff _ _ .0 own .0)) here)
+    (λ later. lt-trans here (applies-above (r .number) reasons (each .1) n later))
+    (either-of (eqb (r .number) n && r .applies) (appliesAs n reasons) e)
+  where
+    each : (ltb m (r .number) ≡ true) × (ascendsFrom (r .number) reasons ≡ true)
+    each = and-eq-true-iff (ltb m (r .number)) (ascendsFrom (r .number) reasons) .0 a
+
+    here : m < r .number
+    here = ltb-true _ _ (each .0)
+
+-- none applies up to the bound
+none-up-to : (m : ℕ) (reasons : List Reason) → ascendsFrom m reasons ≡ true → (n : ℕ) → n ≤ m → appliesAs n reasons ≡ false
+none-up-to m reasons a n h = go (true-or-false (appliesAs n reasons))
+  where
+    go : (appliesAs n reasons ≡ true) ⊎ (appliesAs n reasons ≡ false) → appliesAs n reasons ≡ false
+    go (inl t) = absurd (lt-irrefl n (lt-of-le-of-lt h (applies-above m reasons a n t)))
+    go (inr f) = f
+
+module _ (r : Reason) (reasons : List Reason) where
+  -- a first reason that doesn't apply is passed over, and one that does counts under its number
+  passed-over : r .applies ≡ false → (n : ℕ) → appliesAs n (r ∷ reasons) ≡ appliesAs n reasons
+  unfolding appliesAs
+  passed-over f n = rw f (go (eqb (r .number) n))
+    where
+      go : (b : Bool) → (b && false || appliesAs n reasons) ≡ appliesAs n reasons
+      go true = refl
+      go false = refl
+
+  counts : r .applies ≡ true → (n : ℕ) → appliesAs n (r ∷ reasons) ≡ (eqb (r .number) n || appliesAs n reasons)
+  unfolding appliesAs
+  counts t n = rw t (go (eqb (r .number) n))
+    where
+      go : (b : Bool) → (b && true || appliesAs n reasons) ≡ (b || appliesAs n reasons)
+      go true = refl
+      go false = refl
+
+  first-applies : r .applies ≡ true → firstOf (r ∷ reasons) ≡ r .number
+  unfolding firstOf
+  first-applies t = rw t
+
+  first-passed : r .applies ≡ false → firstOf (r ∷ reasons) ≡ firstOf reasons
+  unfolding firstOf
+  first-passed f = rw f
+
+  later : (m : ℕ) → ascendsFrom m (r ∷ reasons) ≡ true → ascendsFrom (r .number) reasons ≡ true
+  unfolding ascendsFrom
+  later m a = and-eq-true-iff (ltb m (r .number)) (ascendsFrom (r .number) reasons) .0 a .1
+
+-- n applies and no lower number does
+Lowest : List Reason → ℕ → Type 0
+Lowest reasons n = (appliesAs n reasons ≡ true) × ((k : ℕ) → k < n → appliesAs k reasons ≡ false)
+
+given-lowest : (m : ℕ) (reasons : List Reason) → ascendsFrom m reasons ≡ true → (n : ℕ) → 0 < n → firstOf reasons ≡ n → Lowest reasons n
+unfolding firstOf Lowest
+given-lowest m [] a n h e = absurd (omega (arith, e))
+given-lowest m (r ∷ reasons) a n h e = go (true-or-false (r .applies)) (given-lowest (r .number) reasons (later r reasons m a) n h)
+  where
+    go : (r .applies ≡ true) ⊎ (r .applies ≡ false) → (firstOf reasons ≡ n → Lowest reasons n) → Lowest (r ∷ reasons) n
+    go (inl t) rest =
+        let own : r .number ≡ n = sym (first-applies r reasons t) ∙ e in
+        (counts r reasons t n ∙ rw (eq-eqb _ _ own),
+        λ k l.
+        counts r reasons t k
+        ∙ rw (ne-eqb (r .number) k (λ s. omega (arith, s, own))) (none-up-to (r .number) reasons (later r reasons m a) k (omega (arith, own))))
+    go (inr f) rest =
+        let low = rest (sym (first-passed r reasons f) ∙ e) in
+        (passed-over r reasons f n ∙ low .0, λ k l. passed-over r reasons f k ∙ low .1 k l)
+
+lowest-given : (m : ℕ) (reasons : List Reason) → ascendsFrom m reasons ≡ true → (n : ℕ) → Lowest reasons n → firstOf reasons ≡ n
+unfolding firstOf appliesAs Lowest
+lowest-given m [] a n low = absurd (true≢false (sym (low .0)))
+lowest-given m (r ∷ reasons) a n low = go (true-or-false (r .applies)) (lowest-given (r .number) reasons (later r reasons m a) n)
+  where
+    go : (r .applies ≡ true) ⊎ (r .applies ≡ false) → (Lowest reasons n → firstOf reasons ≡ n) → firstOf (r ∷ reasons) ≡ n
+    go (inl t) rest =
+        first-applies r reasons t
+        ∙ ⊎-elim (λ own. eqb-true _ _ own)
+        (λ after.
+        absurd
+        (true≢false
+        (sym (counts r reasons t (r .number) ∙ rw (eq-eqb (r .number) (r .number) refl))
+        ∙ low .1 (r .number) (applies-above (r .number) reasons (later r reasons m a) n after))))
+        (either-of (eqb (r .number) n) (appliesAs n reasons) (sym (counts r reasons t n) ∙ low .0))
+    go (inr f) rest =
+        first-passed r reasons f
+        ∙ rest (sym (passed-over r reasons f n) ∙ low .0, λ k l. sym (passed-over r reasons f k) ∙ low .1 k l)
+
+pub first-by-number : FirstByNumber
+unfolding Lowest
+first-by-number reasons a n h = (given-lowest 0 reasons a n h, lowest-given 0 reasons a n)
+
+none-given : (m : ℕ) (reasons : List Reason) → ascendsFrom m reasons ≡ true → firstOf reasons ≡ 0 → (n : ℕ) → appliesAs n reasons ≡ false
+unfolding ascendsFrom appliesAs
+none-given m [] a e n = refl
+none-given m (r ∷ reasons) a e n = go (true-or-false (r .applies)) (none-given (r .number) reasons (later r reasons m a))
+  where
+    go : (r .applies ≡ true) ⊎ (r .applies ≡ false) → (firstOf reasons ≡ 0 → (k : ℕ) → appliesAs k reasons ≡ false)
+        → appliesAs n (r ∷ reasons) ≡ false
+    go (inl t) rest =
+        let above : m < r .number = ltb-true _ _ (and-eq-true-iff (ltb m (r .number)) (ascendsFrom (r .number) reasons) .0 a .0) in
+        absurd (omega (arith, sym (first-applies r reasons t) ∙ e))
+    go (inr f) rest = passed-over r reasons f n ∙ rest (sym (first-passed r reasons f) ∙ e) n
+
+pub none-applies : NoneApplies
+none-applies reasons a = (none-given 0 reasons a, λ each. go each (decLt 0 (firstOf reasons)))
+  where
+    go : ((n : ℕ) → appliesAs n reasons ≡ false) → Dec (0 < firstOf reasons) → firstOf reasons ≡ 0
+    go each (yes h) = absurd (true≢false (sym (first-by-number reasons a (firstOf reasons) h .0 refl .0) ∙ each (firstOf reasons)))
+    go each (no h) = omega arith
 
 -- ---- The least number that passes
 
@@ -72,6 +192,14 @@ least-within test (suc n) = go (test 0) (least-within (λ k. test (suc k)) n)
     go true l = omega arith
     go false l = suc-le-suc l
 
+-- where any number below the bound passes, the least is below it
+pub least-below : (test : ℕ → Bool) (n k : ℕ) → k < n → test k ≡ true → leastBelow test n < n
+least-below test n k h e = go (decLt (leastBelow test n) n)
+  where
+    go : Dec (leastBelow test n < n) → leastBelow test n < n
+    go (yes below) = below
+    go (no not-below) = absurd (true≢false (sym e ∙ least-first test n k (omega arith)))
+
 -- so a number that passes, and before which none does, is the least
 pub least-is : (test : ℕ → Bool) (n m : ℕ) → ((k : ℕ) → k < m → test k ≡ false) → test m ≡ true → m < n → leastBelow test n ≡ m
 least-is test n m none passes h = go (decLt (leastBelow test n) m) (decLt m (leastBelow test n))
@@ -83,3 +211,8 @@ least-is test n m none passes h = go (decLt (leastBelow test n) m) (decLt m (lea
     go (yes below) d = absurd (true≢false (sym (least-passes test n (lt-trans below h)) ∙ none least below))
     go (no b) (yes above) = absurd (true≢false (sym passes ∙ least-first test n m above))
     go (no b) (no a) = omega arith
+
+pub least-passing : LeastPassing
+least-passing test n k h e =
+    let below = least-below test n k h e in
+    (below, (least-passes test n below, least-first test n))

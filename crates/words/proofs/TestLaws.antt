@@ -1,7 +1,7 @@
 -- What a test that came out true says of its parts, what makes one come out true, and picking by tests.
 use mathlib.Core.Path.{_≡_, refl, sym}
 use mathlib.Core.Logic.{_⊎_, inl, inr}
-use mathlib.Core.Bool.{Bool, true, false, not, cond, _||_, true≢false}
+use mathlib.Core.Bool.{Bool, true, false, not, cond, _&&_, _||_, true≢false}
 
 -- a test came out one way or the other, with the equation in hand
 pub true-or-false : (b : Bool) → (b ≡ true) ⊎ (b ≡ false)
@@ -14,6 +14,12 @@ tests-same true b to from = sym (to refl)
 tests-same false true to from = from refl
 tests-same false false to from = refl
 
+-- three tests that hold together each do
+pub all-three : (a b c : Bool) → (a && b && c) ≡ true → (a ≡ true) × ((b ≡ true) × (c ≡ true))
+all-three true true c e = (refl, (refl, e))
+all-three true false c e = absurd (true≢false (sym e))
+all-three false b c e = absurd (true≢false (sym e))
+
 -- a disjunction that holds: one of its sides does
 pub either-of : (a b : Bool) → (a || b) ≡ true → (a ≡ true) ⊎ (b ≡ true)
 either-of true b e = inl refl
@@ -23,6 +29,15 @@ either-of false b e = inr e
 pub then-of : (a b : Bool) → (not a || b) ≡ true → a ≡ true → b ≡ true
 then-of true b e h = e
 then-of false b e h = absurd (true≢false (sym h))
+
+-- `a || b`, where a doesn't hold
+pub else-of : (a b : Bool) → (a || b) ≡ true → a ≡ false → b ≡ true
+else-of true b e f = absurd (true≢false f)
+else-of false b e f = e
+
+pub of-else : (a b : Bool) → (a ≡ false → b ≡ true) → (a || b) ≡ true
+of-else true b h = refl
+of-else false b h = h refl
 
 pub of-then : (a b : Bool) → (a ≡ true → b ≡ true) → (not a || b) ≡ true
 of-then true b h = h refl

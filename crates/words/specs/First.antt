@@ -1,7 +1,8 @@
 -- The first of several that applies: of reasons to refuse, by number, and of the numbers below a bound.
 use Prim.Native.Nat.{ℕ, zero, suc}
-use mathlib.Core.Bool.{Bool, cond}
+use mathlib.Core.Bool.{Bool, true, false, cond, _&&_, _||_}
 use mathlib.Core.List.{List, [], _∷_}
+use lib.Dec.{eqb, ltb}
 
 -- a reason to refuse: the number it is given as, and whether it applies
 pub record Reason : Type 0 where
@@ -15,6 +16,16 @@ reason number applies = record { number = number; applies = applies }
 unfoldable pub firstOf : List Reason → ℕ
 firstOf [] = 0
 firstOf (r ∷ reasons) = cond (r .applies) (r .number) (firstOf reasons)
+
+-- some reason of this number applies
+unfoldable pub appliesAs : ℕ → List Reason → Bool
+appliesAs n [] = false
+appliesAs n (r ∷ reasons) = eqb (r .number) n && r .applies || appliesAs n reasons
+
+-- the reasons stand in the order of their numbers, which are above m
+unfoldable pub ascendsFrom : ℕ → List Reason → Bool
+ascendsFrom m [] = true
+ascendsFrom m (r ∷ reasons) = ltb m (r .number) && ascendsFrom (r .number) reasons
 
 -- the least number below the bound that passes the test, or the bound itself where none does
 unfoldable pub leastBelow : (ℕ → Bool) → ℕ → ℕ

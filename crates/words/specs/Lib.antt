@@ -3,3 +3,4 @@ pub mod Bits
 pub mod Below
 pub mod Among
 pub mod First
+pub mod Promises

@@ -1,0 +1,178 @@
+-- What is promised of the bus and its methods. The proof of each stands in proofs/ under its name in lower case, with hyphens.
+use Prim.Native.Nat.{ℕ, _<_, _≤_}
+use mathlib.Core.Path.{_≡_}
+use mathlib.Core.Logic.{_↔_, _⊎_}
+use mathlib.Core.Bool.{Bool, true, false, cond, not, _&&_}
+use mathlib.Core.List.{List, [], _∷_, _++_, flatten}
+use lib.Dec.{eqb}
+use lib.ListN.{length, getD, take}
+use Rattle.words.specs.Bits.{bitAt}
+use Rattle.words.specs.Among.{isAmong}
+use Rattle.words.specs.First.{firstOf}
+use Rattle.lines.specs.Arbitration.{Highest, isRound, afterLooks}
+use Rattle.bus.specs.Phase as Phase
+use Rattle.bus.specs.Refusal as Refusal
+use Rattle.bus.specs.Cards.{cardIn}
+use Rattle.bus.specs.State.{nobody, silent, moved, arbitrationOf, linesOf, isSettled}
+use Rattle.bus.specs.Sense.{makesSense}
+use Rattle.bus.specs.Setup.{freeBus, emptyBus, setupOf}
+use Rattle.bus.specs.Steps.{requested, lookedBy, afterLooksOf, acknowledged}
+use Rattle.bus.specs.Signal.{signalsIn}
+use Rattle.bus.specs.Status.{statusOf, byteWrite, wordWrite}
+use Rattle.bus.specs.Control.{pHLDA, allowsCycles, controlIn, isMWRT}
+use Rattle.bus.specs.Settle.{listRefusal, settleOf}
+use Rattle.bus.specs.Method.{Method, after}
+use Rattle.bus.specs.declared.state.Bus.{Bus}
+use Rattle.bus.specs.declared.settle.Settlement.{Settlement}
+
+-- ---- Sense
+
+-- what a state that makes sense is, sentence by sentence
+pub record Sensible (bus : Bus) : Type 0 where
+  pub sixteenPages : length (bus .pages) ≡ 16
+  pub sixteenLevels : length (bus .driven) ≡ 16
+  pub codes : (p : ℕ) → p < 16 → getD (bus .pages) p 0 ≤ 2
+  pub phases : bus .phase ≤ 5
+  pub contendersFitted : (n : ℕ) → cardIn (bus .contenders) n ≡ true → cardIn (bus .fitted) n ≡ true
+  pub someInArbitration : bus .phase ≡ Phase.arbitration → (n : ℕ) × (cardIn (bus .contenders) n ≡ true)
+  pub noneElsewhere : (bus .phase ≡ Phase.arbitration → ⊥) → (n : ℕ) → cardIn (bus .contenders) n ≡ false
+  pub contenderDrives : (n : ℕ) → cardIn (bus .contenders) n ≡ true → getD (bus .driven) n 0 ≤ 15
+  pub idleDrives : (n : ℕ) → n < 16 → cardIn (bus .contenders) n ≡ false → getD (bus .driven) n 0 ≡ 0
+  pub grantedFitted : Phase.granted ≤ bus .phase → cardIn (bus .fitted) (bus .granted) ≡ true
+  pub nobodyElsewhere : bus .phase < Phase.granted → bus .granted ≡ nobody
+
+-- The test says exactly that.
+abbrev pub SenseMeans : Type 0
+SenseMeans = (bus : Bus) → (makesSense bus ≡ true) ↔ Sensible bus
+
+-- A state that makes sense still does after any method,
+abbrev pub SenseKept : Type 0
+SenseKept = (method : Method) (bus : Bus) → makesSense bus ≡ true → makesSense (after method bus) ≡ true
+
+-- and no method changes the fitted cards or the pages, of any state.
+abbrev pub CardsAndPagesKept : Type 0
+CardsAndPagesKept = (method : Method) (bus : Bus) → (after method bus .fitted ≡ bus .fitted) × (after method bus .pages ≡ bus .pages)
+
+-- ---- Setup
+
+-- Setup refuses exactly where a code is above 2, and then answers the bus without cards and pages;
+abbrev pub SetupRefuses : Type 0
+SetupRefuses =
+    (fitted : ℕ) (pages : List ℕ) (p : ℕ) → p < 16 → 2 < getD pages p 0
+    → (setupOf fitted pages .answer ≡ Refusal.badPage) × (setupOf fitted pages .bus ≡ emptyBus)
+
+-- otherwise it answers a free bus with these cards and pages;
+abbrev pub SetupAccepts : Type 0
+SetupAccepts =
+    (fitted : ℕ) (pages : List ℕ) → ((p : ℕ) → p < 16 → getD pages p 0 ≤ 2)
+    → (setupOf fitted pages .answer ≡ Refusal.accepted) × (setupOf fitted pages .bus ≡ freeBus fitted pages)
+
+-- and either makes sense.
+abbrev pub SetupMakesSense : Type 0
+SetupMakesSense = (fitted : ℕ) (pages : List ℕ) → length pages ≡ 16 → makesSense (setupOf fitted pages .bus) ≡ true
+
+-- ---- Arbitration
+
+-- In arbitration looks change what is driven, as the lines have it, and nothing else;
+abbrev pub LooksDrive : Type 0
+LooksDrive =
+    (bus : Bus) → bus .phase ≡ Phase.arbitration → (looks : List ℕ)
+    → afterLooksOf bus looks ≡ moved bus (bus .phase) (bus .contenders) (afterLooks (arbitrationOf bus) (bus .driven) looks) (bus .granted)
+
+-- in another phase they change nothing.
+abbrev pub LooksElsewhere : Type 0
+LooksElsewhere = (bus : Bus) → (bus .phase ≡ Phase.arbitration → ⊥) → (looks : List ℕ) → afterLooksOf bus looks ≡ bus
+
+-- In arbitration there is one highest contender;
+abbrev pub HighestThere : Type 0
+HighestThere =
+    (bus : Bus) → makesSense bus ≡ true → bus .phase ≡ Phase.arbitration
+    → (m : ℕ) × (Highest (arbitrationOf bus) m × ((n : ℕ) → Highest (arbitrationOf bus) n → n ≡ m))
+
+-- four rounds, from any levels that make sense, leave the lines settled at its number, and looks after them leave them so;
+abbrev pub FourRounds : Type 0
+FourRounds =
+    (bus : Bus) → makesSense bus ≡ true → bus .phase ≡ Phase.arbitration → (m : ℕ) → Highest (arbitrationOf bus) m
+    → (r₁ r₂ r₃ r₄ : List ℕ) → isRound (arbitrationOf bus) r₁ ≡ true → isRound (arbitrationOf bus) r₂ ≡ true
+    → isRound (arbitrationOf bus) r₃ ≡ true → isRound (arbitrationOf bus) r₄ ≡ true → (further : List ℕ)
+    → (linesOf (afterLooksOf bus (flatten (r₁ ∷ r₂ ∷ r₃ ∷ r₄ ∷ []) ++ further)) ≡ m)
+    × (isSettled (afterLooksOf bus (flatten (r₁ ∷ r₂ ∷ r₃ ∷ r₄ ∷ []) ++ further)) ≡ true)
+
+-- and for these contenders nothing else that makes sense is settled.
+abbrev pub SettledOneWay : Type 0
+SettledOneWay =
+    (bus other : Bus) → makesSense bus ≡ true → makesSense other ≡ true → bus .contenders ≡ other .contenders
+    → isSettled bus ≡ true → isSettled other ≡ true → bus .driven ≡ other .driven
+
+-- ---- The grant
+
+-- An acknowledge that changes the phase grants the highest contender, whatever the state was, and ends contention and driving;
+abbrev pub GrantsHighest : Type 0
+GrantsHighest =
+    (bus : Bus) → (acknowledged bus .phase ≡ bus .phase → ⊥)
+    → Highest (arbitrationOf bus) (acknowledged bus .granted)
+    × (acknowledged bus ≡ moved bus Phase.granted 0 silent (acknowledged bus .granted))
+
+-- in arbitration it does so exactly where no contender's look would change what it drives; otherwise the state is as it was.
+abbrev pub GrantsSettled : Type 0
+GrantsSettled =
+    (bus : Bus) → makesSense bus ≡ true → bus .phase ≡ Phase.arbitration
+    → (isSettled bus ≡ true → acknowledged bus .phase ≡ Phase.granted) × (isSettled bus ≡ false → acknowledged bus ≡ bus)
+
+-- ---- Settle
+
+-- Refused, settle answers the state as given and a count of 0.
+abbrev pub SettleRefusedKeeps : Type 0
+SettleRefusedKeeps =
+    (bus : Bus) (cards : List ℕ) → (settleOf bus cards .answer ≡ Refusal.accepted → ⊥)
+    → (settleOf bus cards .bus ≡ bus) × (settleOf bus cards .looks ≡ 0)
+
+-- what an accepted settle answers: the count is that of leading looks after which the lines are settled, and after no fewer looks were they
+pub record SettledBy (bus : Bus) (cards : List ℕ) (settlement : Settlement) : Type 0 where
+  pub within : settlement .looks ≤ length cards
+  pub reached : settlement .bus ≡ afterLooksOf bus (take (settlement .looks) cards)
+  pub still : isSettled (settlement .bus) ≡ true
+  pub least : (n : ℕ) → n < settlement .looks → isSettled (afterLooksOf bus (take n cards)) ≡ false
+
+abbrev pub SettleCountsLeast : Type 0
+SettleCountsLeast = (bus : Bus) (cards : List ℕ) → settleOf bus cards .answer ≡ Refusal.accepted → SettledBy bus cards (settleOf bus cards)
+
+-- What is wrong with the state or the list comes first;
+abbrev pub SettleJudgesFirst : Type 0
+SettleJudgesFirst = (bus : Bus) (cards : List ℕ) → (listRefusal bus cards ≡ 0 → ⊥) → settleOf bus cards .answer ≡ listRefusal bus cards
+
+-- where nothing is, it is refused as unsettled exactly if no leading part of the list settles the lines.
+abbrev pub SettleUnsettled : Type 0
+SettleUnsettled =
+    (bus : Bus) (cards : List ℕ) → listRefusal bus cards ≡ 0
+    → (settleOf bus cards .answer ≡ Refusal.unsettled) ↔ ((n : ℕ) → n ≤ length cards → isSettled (afterLooksOf bus (take n cards)) ≡ false)
+
+-- A list that begins with four rounds is never refused as unsettled.
+abbrev pub FourRoundsListed : Type 0
+FourRoundsListed =
+    (bus : Bus) (r₁ r₂ r₃ r₄ : List ℕ) → isRound (arbitrationOf bus) r₁ ≡ true → isRound (arbitrationOf bus) r₂ ≡ true
+    → isRound (arbitrationOf bus) r₃ ≡ true → isRound (arbitrationOf bus) r₄ ≡ true → (further : List ℕ)
+    → settleOf bus (flatten (r₁ ∷ r₂ ∷ r₃ ∷ r₄ ∷ []) ++ further) .answer ≡ Refusal.unsettled → ⊥
+
+-- ---- HOLD is not the whole of it
+
+-- The bus is free exactly where HOLD and pHLDA are both false (000, 2.8.2.3.2).
+abbrev pub FreeMeansBoth : Type 0
+FreeMeansBoth = (phase : ℕ) → phase ≤ 5 → eqb phase Phase.free ≡ (not (bitAt (signalsIn phase) 0) && not (bitAt (signalsIn phase) 1))
+
+-- In transfer two HOLD is false and pHLDA true, and a request, of whatever cards, changes nothing.
+abbrev pub HoldFalseIsNotFree : Type 0
+HoldFalseIsNotFree =
+    (bus : Bus) → bus .phase ≡ Phase.transferTwo
+    → (bitAt (signalsIn (bus .phase)) 0 ≡ false) × (bitAt (signalsIn (bus .phase)) 1 ≡ true) × ((cards : ℕ) → requested bus cards ≡ bus)
+
+-- ---- Control outputs
+
+-- While the bus changes hands they stand as in 000, Table 7, whatever kind of cycle is spoken of.
+abbrev pub TableSeven : Type 0
+TableSeven = (phase kind : ℕ) → (phase ≡ Phase.transferOne) ⊎ (phase ≡ Phase.transferTwo) → controlIn phase kind ≡ pHLDA
+
+-- MWRT is true in a memory write, and only there.
+abbrev pub WriteStrobe : Type 0
+WriteStrobe =
+    (phase kind : ℕ) → isMWRT (controlIn phase kind) (statusOf kind) ≡ (allowsCycles phase && isAmong kind (byteWrite ∷ wordWrite ∷ []))
