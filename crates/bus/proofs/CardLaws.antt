@@ -29,7 +29,6 @@ card-below cards n e = ltb-true n 16 (and-eq-true-iff (ltb n 16) (bitAt cards n)
 pub card-bit : (cards n : ℕ) → n < 16 → cardIn cards n ≡ bitAt cards n
 card-bit cards n h = rw (lt-ltb n 16 h)
 
--- what is asked of all cards of the set, card by card
 pub some-card : (cards : ℕ) → cards < 2 ^ 16 → not (eqb cards 0) ≡ someCard cards
 unfolding someCard
 some-card cards h = ap not (tests-same _ _ none empty)
@@ -96,3 +95,10 @@ some-of cards n c = go (true-or-false (someCard cards))
 pub none-of : (cards : ℕ) → ((n : ℕ) → cardIn cards n ≡ false) → someCard cards ≡ false
 unfolding someCard
 none-of cards each = ap not (all-of _ 16 (λ n h. ap not (each n)))
+
+pub none-in-empty : (n : ℕ) → cardIn 0 n ≡ false
+none-in-empty n = go (true-or-false (cardIn 0 n))
+  where
+    go : (cardIn 0 n ≡ true) ⊎ (cardIn 0 n ≡ false) → cardIn 0 n ≡ false
+    go (inl c) = card-bit 0 n (card-below 0 n c) ∙ bit-above n 0 (pow-pos n)
+    go (inr f) = f

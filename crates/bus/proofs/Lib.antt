@@ -1,8 +1,10 @@
 -- Laws that the functions' proofs cite, and the promises' proofs.
 pub mod Arbitrated
 pub mod CardLaws
+pub mod Kept
 pub mod Look
 pub mod LookRuns
+pub mod OnTheLines
 pub mod SenseLaws
 pub mod SettleLaws
 pub mod Settled

@@ -11,18 +11,18 @@ use lib.ListN.{length, take}
 use lib.Seq.{take-length}
 use borrow.Author.Tests.{eqb-true, eqb-false, eq-eqb, ne-eqb, not-true, not-false}
 use Rattle.words.specs.Below.{allBelow}
-use Rattle.words.specs.First.{firstOf, leastBelow}
+use Rattle.words.specs.First.{firstOf, ascendsFrom}
 use Rattle.words.proofs.TestLaws.{true-or-false}
 use Rattle.words.proofs.BelowLaws.{all-at, all-of, some-not}
-use Rattle.words.proofs.FirstLaws.{least-passes, least-first, least-below}
+use Rattle.words.proofs.FirstLaws.{first-by-number, least-passes, least-first, least-below}
 use Rattle.lines.specs.Arbitration.{Highest}
 use Rattle.bus.specs.Phase as Phase
 use Rattle.bus.specs.Refusal as Refusal
 use Rattle.bus.specs.State.{arbitrationOf, isSettled}
 use Rattle.bus.specs.Sense.{makesSense}
 use Rattle.bus.specs.Steps.{afterLooksOf}
-use Rattle.bus.specs.Settle.{settledAfter, leadingLooks, neverSettles, isSenseless, namesNoCard, namesUnfitted, isElsewhere, namesIdle, listRefusal, settleRefusal, refusedAs, settledBy, settleOf}
-use Rattle.bus.specs.Promises.{SettledBy, SettleRefusedKeeps, SettleCountsLeast, SettleJudgesFirst, SettleUnsettled, FourRoundsListed}
+use Rattle.bus.specs.Settle.{settledAfter, leadingLooks, neverSettles, isSenseless, namesNoCard, namesUnfitted, isElsewhere, namesIdle, settleReasons, listRefusal, settleRefusal, refusedAs, settledBy, settleOf}
+use Rattle.bus.specs.Promises.{SettledBy, SettleRefusedKeeps, SettleCountsLeast, SettleByNumber, SettleUnsettled, FourRoundsListed}
 use Rattle.bus.specs.declared.state.Bus.{Bus}
 use Rattle.bus.specs.declared.settle.Settlement.{Settlement}
 use Rattle.bus.proofs.Arbitrated.{highest-there, four-rounds}
@@ -104,8 +104,15 @@ settle-refused-keeps bus cards refused =
 pub settle-counts-least : SettleCountsLeast
 settle-counts-least bus cards e = settled-by bus cards (sym (answers bus cards) ∙ e)
 
-pub settle-judges-first : SettleJudgesFirst
-settle-judges-first bus cards wrong = answers bus cards ∙ judged bus cards ∙ rw (ne-eqb _ _ wrong)
+pub settle-by-number : SettleByNumber
+unfolding settleRefusal ascendsFrom
+settle-by-number bus cards n h =
+    let lowest = first-by-number (settleReasons bus cards) refl n h in
+    (λ e. lowest .0 (sym (answers bus cards) ∙ e), λ low. answers bus cards ∙ lowest .1 low)
+
+-- what is wrong with the state or the list comes first
+list-first : (bus : Bus) (cards : List ℕ) → (listRefusal bus cards ≡ 0 → ⊥) → settleOf bus cards .answer ≡ listRefusal bus cards
+list-first bus cards wrong = answers bus cards ∙ judged bus cards ∙ rw (ne-eqb _ _ wrong)
 
 pub settle-unsettled : SettleUnsettled
 settle-unsettled bus cards e = (
@@ -162,7 +169,7 @@ four-rounds-listed bus r₁ r₂ r₃ r₄ e₁ e₂ e₃ e₄ further unsettled
       where
         go : (eqb (listRefusal bus looks) 0 ≡ true) ⊎ (eqb (listRefusal bus looks) 0 ≡ false) → listRefusal bus looks ≡ 0
         go (inl t) = eqb-true _ _ t
-        go (inr f) = absurd (list-never-unsettled bus looks (sym (settle-judges-first bus looks (eqb-false _ _ f)) ∙ unsettled))
+        go (inr f) = absurd (list-never-unsettled bus looks (sym (list-first bus looks (eqb-false _ _ f)) ∙ unsettled))
 
     in-order : (makesSense bus ≡ true) × (bus .phase ≡ Phase.arbitration)
     in-order = list-in-order bus looks nothing-wrong

@@ -8,7 +8,7 @@ use lib.Dec.{eqb}
 use lib.ListN.{length, getD, take}
 use Rattle.words.specs.Bits.{bitAt}
 use Rattle.words.specs.Among.{isAmong}
-use Rattle.words.specs.First.{firstOf}
+use Rattle.words.specs.First.{appliesAs}
 use Rattle.lines.specs.Arbitration.{Highest, isRound, afterLooks}
 use Rattle.bus.specs.Phase as Phase
 use Rattle.bus.specs.Refusal as Refusal
@@ -20,7 +20,7 @@ use Rattle.bus.specs.Steps.{requested, lookedBy, afterLooksOf, acknowled
 use Rattle.bus.specs.Signal.{signalsIn}
 use Rattle.bus.specs.Status.{statusOf, byteWrite, wordWrite}
 use Rattle.bus.specs.Control.{pHLDA, allowsCycles, controlIn, isMWRT}
-use Rattle.bus.specs.Settle.{listRefusal, settleOf}
+use Rattle.bus.specs.Settle.{settleReasons, listRefusal, settleOf}
 use Rattle.bus.specs.Method.{Method, after}
 use Rattle.bus.specs.declared.state.Bus.{Bus}
 use Rattle.bus.specs.declared.settle.Settlement.{Settlement}
@@ -137,11 +137,14 @@ pub record SettledBy (bus : Bus) (cards : List ℕ) (settlement : Settlement) : 
 abbrev pub SettleCountsLeast : Type 0
 SettleCountsLeast = (bus : Bus) (cards : List ℕ) → settleOf bus cards .answer ≡ Refusal.accepted → SettledBy bus cards (settleOf bus cards)
 
--- What is wrong with the state or the list comes first;
-abbrev pub SettleJudgesFirst : Type 0
-SettleJudgesFirst = (bus : Bus) (cards : List ℕ) → (listRefusal bus cards ≡ 0 → ⊥) → settleOf bus cards .answer ≡ listRefusal bus cards
+-- It is refused with n exactly if n applies, to the state, the whole list or the looks, and no lower number does.
+abbrev pub SettleByNumber : Type 0
+SettleByNumber =
+    (bus : Bus) (cards : List ℕ) (n : ℕ) → 0 < n
+    → (settleOf bus cards .answer ≡ n)
+    ↔ ((appliesAs n (settleReasons bus cards) ≡ true) × ((k : ℕ) → k < n → appliesAs k (settleReasons bus cards) ≡ false))
 
--- where nothing is, it is refused as unsettled exactly if no leading part of the list settles the lines.
+-- Where nothing is wrong with the state or the list, it is refused as unsettled exactly if no leading part of the list settles the lines.
 abbrev pub SettleUnsettled : Type 0
 SettleUnsettled =
     (bus : Bus) (cards : List ℕ) → listRefusal bus cards ≡ 0
@@ -175,4 +178,5 @@ TableSeven = (phase kind : ℕ) → (phase ≡ Phase.transferOne) ⊎ (phase ≡
 -- MWRT is true in a memory write, and only there.
 abbrev pub WriteStrobe : Type 0
 WriteStrobe =
-    (phase kind : ℕ) → isMWRT (controlIn phase kind) (statusOf kind) ≡ (allowsCycles phase && isAmong kind (byteWrite ∷ wordWrite ∷ []))
+    (phase kind : ℕ) → kind < 256
+    → isMWRT (controlIn phase kind) (statusOf kind) ≡ (allowsCycles phase && isAmong kind (byteWrite ∷ wordWrite ∷ []))

@@ -1,11 +1,12 @@
 -- What a look leaves in the list of levels, and that looks leave the levels and the lines in range.
-use mathlib.Core.Path.{_≡_, refl, ap, ap₂, _∙_, subst}
-use mathlib.Core.Bool.{Bool, true, false, cond, not, _&&_, _||_}
+use mathlib.Core.Path.{_≡_, refl, sym, ap, ap₂, _∙_, subst}
+use mathlib.Core.Bool.{Bool, true, false, cond, not, _&&_, _||_, true≢false}
 use mathlib.Core.List.{List, [], _∷_, _++_}
 use Prim.Native.Nat.{ℕ, _^_, _<_}
 use native.Mathlib.Omega.{arith}
 use lib.Dec.{eqb}
 use lib.ListN.{length, getD, set, length-set}
+use lib.Seq.{getD-set-other}
 use lib.Pow.{pow-pos}
 use borrow.Author.Tests.{eq-eqb}
 use Rattle.words.specs.Bits.{bitAt}
@@ -34,6 +35,15 @@ module _ (a : Arbitration) where
       go : (b : Bool) → P (getD (cond b (set levels p (looked a levels p)) levels) q 0)
       go false = old
       go true = getD-set-either P levels p q (looked a levels p) old (λ e. subst (λ (x : ℕ). P (looked a levels x)) e new)
+
+  -- nobody's look changes what a card that doesn't contend drives
+  pub idle-look : (levels : List ℕ) (p q : ℕ) → a .contends q ≡ false → getD (afterLook a levels p) q 0 ≡ getD levels q 0
+  unfolding afterLook
+  idle-look levels p q idle = go (a .contends p) refl
+    where
+      go : (b : Bool) → a .contends p ≡ b → getD (cond b (set levels p (looked a levels p)) levels) q 0 ≡ getD levels q 0
+      go false c = refl
+      go true c = getD-set-other levels p q (looked a levels p) 0 (λ e. true≢false (sym c ∙ ap (a .contends) (sym e) ∙ idle))
 
   pub after-append : (levels looks more : List ℕ) → afterLooks a levels (looks ++ more) ≡ afterLooks a (afterLooks a levels looks) more
   unfolding afterLooks
