@@ -17,7 +17,7 @@ use Rattle.lines.proofs.Settling.{settled-show-highest}
 use Rattle.lines.proofs.Unique.{settled-list-unique}
 use Rattle.lines.proofs.NumberedCards.{by-number}
 use Rattle.lines.proofs.FourLines.{four-rounds-settle, four-highest-unique}
-use Rattle.bus.specs.Phase as Phase
+use Rattle.phases.specs.Phase as Phase
 use Rattle.bus.specs.Cards.{cardIn, someCard}
 use Rattle.bus.specs.State.{moved, silent, arbitrationOf, linesOf, isSettled}
 use Rattle.bus.specs.Sense.{makesSense}
@@ -104,9 +104,10 @@ grants-highest bus changed = go (true-or-false (mayAcknowledge bus))
 pub grants-settled : GrantsSettled
 grants-settled bus e a =
     let one = sense-means bus .0 e .someInArbitration a in
-    let some = some-of (bus .contenders) (one .0) (one .1) in
-    (λ still. ap (λ (b : Bus). b .phase) (acknowledge-taken bus (rw (eq-eqb _ _ a, some) still)),
-    λ moving. acknowledge-left bus (rw (eq-eqb _ _ a, some) moving))
+    let some = some-of (bus .contenders) (one .0) (one .1) in (
+      λ still. ap (λ (b : Bus). b .phase) (acknowledge-taken bus (rw (eq-eqb _ _ a, some) still)),
+      λ moving. acknowledge-left bus (rw (eq-eqb _ _ a, some) moving),
+    )
 
 -- ---- Settled levels are unique
 

@@ -13,7 +13,7 @@ use borrow.Author.Tests.{eqb-true, eqb-false, eq-eqb, ne-eqb}
 use Rattle.words.proofs.TestLaws.{true-or-false, all-three}
 use Rattle.lines.specs.Arbitration.{afterLook, looked}
 use Rattle.lines.proofs.LevelLaws.{length-look, after-look, looked-in-range, idle-look}
-use Rattle.bus.specs.Phase as Phase
+use Rattle.phases.specs.Phase as Phase
 use Rattle.bus.specs.Cards.{cardIn, someCard, isWithin}
 use Rattle.bus.specs.State.{nobody, silent, stateOf, moved, arbitrationOf, linesOf, isSettled}
 use Rattle.bus.specs.Sense.{makesSense}

@@ -4,8 +4,7 @@ pub mod CardLaws
 pub mod Kept
 pub mod Look
 pub mod LookRuns
-pub mod OnTheLines
 pub mod SenseLaws
 pub mod SettleLaws
 pub mod Settled
-pub mod TableRules
+pub mod SetUp

@@ -13,7 +13,7 @@ use borrow.Author.Tests.{leb-true, le-leb, lt-leb, eqb-true, eqb-false, eq-eqb, 
 use Rattle.words.specs.Below.{allBelow}
 use Rattle.words.proofs.TestLaws.{true-or-false, all-three, then-of, else-of, of-then, of-else}
 use Rattle.words.proofs.BelowLaws.{all-at, all-of}
-use Rattle.bus.specs.Phase as Phase
+use Rattle.phases.specs.Phase as Phase
 use Rattle.bus.specs.Cards.{cardIn, someCard, isWithin}
 use Rattle.bus.specs.State.{nobody}
 use Rattle.bus.specs.Sense.{hasSixteen, pagesKnown, contentionFits, drivingFits, grantFits, makesSense}

@@ -16,7 +16,7 @@ use Rattle.words.proofs.TestLaws.{true-or-false}
 use Rattle.words.proofs.BelowLaws.{all-at, all-of, some-not}
 use Rattle.words.proofs.FirstLaws.{first-by-number, least-passes, least-first, least-below}
 use Rattle.lines.specs.Arbitration.{Highest}
-use Rattle.bus.specs.Phase as Phase
+use Rattle.phases.specs.Phase as Phase
 use Rattle.bus.specs.Refusal as Refusal
 use Rattle.bus.specs.State.{arbitrationOf, isSettled}
 use Rattle.bus.specs.Sense.{makesSense}

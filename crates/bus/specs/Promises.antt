@@ -1,25 +1,21 @@
 -- What is promised of the bus and its methods. The proof of each stands in proofs/ under its name in lower case, with hyphens.
 use Prim.Native.Nat.{ℕ, _<_, _≤_}
 use mathlib.Core.Path.{_≡_}
-use mathlib.Core.Logic.{_↔_, _⊎_}
-use mathlib.Core.Bool.{Bool, true, false, cond, not, _&&_}
+use mathlib.Core.Logic.{_↔_}
+use mathlib.Core.Bool.{true, false}
 use mathlib.Core.List.{List, [], _∷_, _++_, flatten}
-use lib.Dec.{eqb}
 use lib.ListN.{length, getD, take}
 use Rattle.words.specs.Bits.{bitAt}
-use Rattle.words.specs.Among.{isAmong}
 use Rattle.words.specs.First.{appliesAs}
 use Rattle.lines.specs.Arbitration.{Highest, isRound, afterLooks}
-use Rattle.bus.specs.Phase as Phase
+use Rattle.phases.specs.Phase as Phase
 use Rattle.bus.specs.Refusal as Refusal
 use Rattle.bus.specs.Cards.{cardIn}
 use Rattle.bus.specs.State.{nobody, silent, moved, arbitrationOf, linesOf, isSettled}
 use Rattle.bus.specs.Sense.{makesSense}
 use Rattle.bus.specs.Setup.{freeBus, emptyBus, setupOf}
 use Rattle.bus.specs.Steps.{requested, lookedBy, afterLooksOf, acknowledged}
-use Rattle.bus.specs.Signal.{signalsIn}
-use Rattle.bus.specs.Status.{statusOf, byteWrite, wordWrite}
-use Rattle.bus.specs.Control.{pHLDA, allowsCycles, controlIn, isMWRT}
+use Rattle.phases.specs.Signal.{signalsIn}
 use Rattle.bus.specs.Settle.{settleReasons, listRefusal, settleOf}
 use Rattle.bus.specs.Method.{Method, after}
 use Rattle.bus.specs.declared.state.Bus.{Bus}
@@ -159,24 +155,8 @@ FourRoundsListed =
 
 -- ---- HOLD is not the whole of it
 
--- The bus is free exactly where HOLD and pHLDA are both false (000, 2.8.2.3.2).
-abbrev pub FreeMeansBoth : Type 0
-FreeMeansBoth = (phase : ℕ) → phase ≤ 5 → eqb phase Phase.free ≡ (not (bitAt (signalsIn phase) 0) && not (bitAt (signalsIn phase) 1))
-
 -- In transfer two HOLD is false and pHLDA true, and a request, of whatever cards, changes nothing.
 abbrev pub HoldFalseIsNotFree : Type 0
 HoldFalseIsNotFree =
     (bus : Bus) → bus .phase ≡ Phase.transferTwo
     → (bitAt (signalsIn (bus .phase)) 0 ≡ false) × (bitAt (signalsIn (bus .phase)) 1 ≡ true) × ((cards : ℕ) → requested bus cards ≡ bus)
-
--- ---- Control outputs
-
--- While the bus changes hands they stand as in 000, Table 7, whatever kind of cycle is spoken of.
-abbrev pub TableSeven : Type 0
-TableSeven = (phase kind : ℕ) → (phase ≡ Phase.transferOne) ⊎ (phase ≡ Phase.transferTwo) → controlIn phase kind ≡ pHLDA
-
--- MWRT is true in a memory write, and only there.
-abbrev pub WriteStrobe : Type 0
-WriteStrobe =
-    (phase kind : ℕ) → kind < 256
-    → isMWRT (controlIn phase kind) (statusOf kind) ≡ (allowsCycles phase && isAmong kind (byteWrite ∷ wordWrite ∷ []))

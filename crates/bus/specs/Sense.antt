@@ -5,7 +5,7 @@ use mathlib.Core.List.{List}
 use lib.Dec.{eqb, leb}
 use lib.ListN.{length, getD}
 use Rattle.words.specs.Below.{allBelow}
-use Rattle.bus.specs.Phase as Phase
+use Rattle.phases.specs.Phase as Phase
 use Rattle.bus.specs.Cards.{cardIn, someCard, isWithin}
 use Rattle.bus.specs.State.{nobody}
 use Rattle.bus.specs.declared.state.Bus.{Bus}

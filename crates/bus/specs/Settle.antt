@@ -6,7 +6,7 @@ use lib.Dec.{eqb, leb}
 use lib.ListN.{length, getD, take}
 use Rattle.words.specs.Below.{allBelow}
 use Rattle.words.specs.First.{Reason, reason, firstOf, leastBelow}
-use Rattle.bus.specs.Phase as Phase
+use Rattle.phases.specs.Phase as Phase
 use Rattle.bus.specs.Refusal as Refusal
 use Rattle.bus.specs.Cards.{cardIn}
 use Rattle.bus.specs.State.{isSettled}

@@ -3,7 +3,7 @@ use Prim.Native.Nat.{ℕ}
 use mathlib.Core.Bool.{cond}
 use mathlib.Core.List.{List}
 use lib.ListN.{replicate}
-use Rattle.bus.specs.Phase as Phase
+use Rattle.phases.specs.Phase as Phase
 use Rattle.bus.specs.Refusal as Refusal
 use Rattle.bus.specs.State.{stateOf, silent, nobody}
 use Rattle.bus.specs.Sense.{pagesKnown}

@@ -5,7 +5,7 @@ use mathlib.Core.Bool.{Bool, cond, _&&_}
 use mathlib.Core.List.{List, [], _∷_}
 use lib.Dec.{eqb}
 use Rattle.lines.specs.Arbitration.{afterLook}
-use Rattle.bus.specs.Phase as Phase
+use Rattle.phases.specs.Phase as Phase
 use Rattle.bus.specs.Cards.{someCard, isWithin}
 use Rattle.bus.specs.State.{moved, silent, nobody, arbitrationOf, linesOf, isSettled}
 use Rattle.bus.specs.declared.state.Bus.{Bus}

@@ -1,19 +1,6 @@
-// The numbers of 01, under the names that specs/ has for them.
+// The granted card's place and the answers, under the names that specs/ has for them.
 
-// Phases.
-pub const FREE: u8 = 0;
-
-pub const ARBITRATION: u8 = 1;
-
-pub const GRANTED: u8 = 2;
-
-pub const TRANSFER_ONE: u8 = 3;
-
-pub const OWNED: u8 = 4;
-
-pub const TRANSFER_TWO: u8 = 5;
-
-// The granted card's place where nobody is granted.
+// Nobody is granted.
 pub const NOBODY: u8 = 0xFF;
 
 // Answers.
@@ -32,12 +19,3 @@ pub const NOT_ITS_TURN: u8 = 0x07;
 pub const UNSETTLED: u8 = 0x08;
 
 pub const BAD_PAGE: u8 = 0x0B;
-
-// Who drives a group of lines.
-pub const NO_DRIVER: u8 = 0;
-
-pub const PERMANENT: u8 = 1;
-
-pub const CARD: u8 = 2;
-
-pub const BOTH: u8 = 3;

@@ -8,6 +8,7 @@ ghost use Rattle.bus.specs.Settle.{everyListed, leadingLooks, listRefusa
 use crate::cards::card_in;
 use crate::numbers::*;
 use crate::state::Bus;
+use phases::numbers::*;
 
 // What settle answers: the refusal, or 0 with the settled state and the number of looks taken.
 pub struct Settlement {

@@ -7,6 +7,7 @@ use crate::cards::counted;
 use crate::cards::is_within;
 use crate::cards::some_card;
 use crate::numbers::*;
+use phases::numbers::*;
 
 // It goes in and comes back by value.
 pub struct Bus {

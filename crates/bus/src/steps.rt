@@ -21,6 +21,7 @@ use crate::cards::some_card;
 use crate::numbers::*;
 use crate::priority::look_at;
 use crate::state::Bus;
+use phases::numbers::*;
 
 impl Bus {
     // These cards ask for the bus together.

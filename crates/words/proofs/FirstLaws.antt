@@ -102,11 +102,12 @@ given-lowest m (r ∷ reasons) a n h e = go (true-or-false (r .applies)) (given-
   where
     go : (r .applies ≡ true) ⊎ (r .applies ≡ false) → (firstOf reasons ≡ n → Lowest reasons n) → Lowest (r ∷ reasons) n
     go (inl t) rest =
-        let own : r .number ≡ n = sym (first-applies r reasons t) ∙ e in
-        (counts r reasons t n ∙ rw (eq-eqb _ _ own),
-        λ k l.
-        counts r reasons t k
-        ∙ rw (ne-eqb (r .number) k (λ s. omega (arith, s, own))) (none-up-to (r .number) reasons (later r reasons m a) k (omega (arith, own))))
+        let own : r .number ≡ n = sym (first-applies r reasons t) ∙ e in (
+          counts r reasons t n ∙ rw (eq-eqb _ _ own),
+          λ k l.
+              counts r reasons t k
+              ∙ rw (ne-eqb (r .number) k (λ s. omega (arith, s, own))) (none-up-to (r .number) reasons (later r reasons m a) k (omega (arith, own))),
+        )
     go (inr f) rest =
         let low = rest (sym (first-passed r reasons f) ∙ e) in
         (passed-over r reasons f n ∙ low .0, λ k l. passed-over r reasons f k ∙ low .1 k l)

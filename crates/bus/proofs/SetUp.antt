@@ -1,0 +1,54 @@
+-- Setup, and a request in transfer two.
+use Prim.Native.Nat.{ℕ, _<_, _≤_}
+use mathlib.Core.Path.{_≡_, refl, ap}
+use mathlib.Core.Logic.{_⊎_, inl, inr, ⊎-elim}
+use mathlib.Core.Bool.{true, false}
+use mathlib.Core.List.{List}
+use native.Mathlib.Nat.{le-of-eq, le-trans}
+use native.Mathlib.Omega.{arith}
+use lib.Dec.{eqb, lit≤}
+use lib.ListN.{length, getD, getD-replicate, replicate}
+use borrow.Author.Tests.{leb-true, le-leb}
+use Rattle.words.specs.Bits.{bitAt}
+use Rattle.words.proofs.TestLaws.{true-or-false}
+use Rattle.words.proofs.BelowLaws.{all-at, all-of}
+use Rattle.phases.specs.Phase as Phase
+use Rattle.phases.specs.Signal.{signalsIn}
+use Rattle.bus.specs.Sense.{pagesKnown, makesSense}
+use Rattle.bus.specs.Setup.{freeBus, emptyBus, setupOf}
+use Rattle.bus.specs.Promises.{SetupRefuses, SetupAccepts, SetupMakesSense, HoldFalseIsNotFree}
+use Rattle.bus.proofs.SenseLaws.{sense-means}
+use Rattle.bus.proofs.Kept.{free-sense}
+
+codes-at : (pages : List ℕ) → pagesKnown pages ≡ true → (p : ℕ) → p < 16 → getD pages p 0 ≤ 2
+unfolding pagesKnown
+codes-at pages e p h = leb-true _ _ (all-at _ 16 e p h)
+
+codes-of : (pages : List ℕ) → ((p : ℕ) → p < 16 → getD pages p 0 ≤ 2) → pagesKnown pages ≡ true
+unfolding pagesKnown
+codes-of pages each = all-of _ 16 (λ p h. le-leb _ _ (each p h))
+
+pub setup-refuses : SetupRefuses
+setup-refuses fitted pages p h above = rw unknown (refl, refl)
+  where
+    unknown : pagesKnown pages ≡ false
+    unknown = ⊎-elim (λ known. let low = codes-at pages known p h in absurd (omega (arith, low, above))) (λ f. f) (true-or-false (pagesKnown pages))
+
+pub setup-accepts : SetupAccepts
+setup-accepts fitted pages each = rw (codes-of pages each) (refl, refl)
+
+pub setup-makes-sense : SetupMakesSense
+setup-makes-sense fitted pages size = go (true-or-false (pagesKnown pages))
+  where
+    go : (pagesKnown pages ≡ true) ⊎ (pagesKnown pages ≡ false) → makesSense (setupOf fitted pages .bus) ≡ true
+    go (inl t) = rw t (sense-means (freeBus fitted pages) .1 (free-sense fitted pages size (codes-at pages t)))
+    go (inr f) = rw f (sense-means emptyBus .1 (free-sense 0 (replicate 16 0) refl (λ p h. le-trans (le-of-eq (getD-replicate 16 p 0 0 h)) (lit≤ tt))))
+
+-- ---- HOLD false, and the bus not free
+
+pub hold-false-is-not-free : HoldFalseIsNotFree
+hold-false-is-not-free bus e = (
+  ap (λ (p : ℕ). bitAt (signalsIn p) 0) e,
+  ap (λ (p : ℕ). bitAt (signalsIn p) 1) e,
+  λ cards. let busy : eqb (bus .phase) Phase.free ≡ false = ap (λ (p : ℕ). eqb p Phase.free) e in rw busy,
+)

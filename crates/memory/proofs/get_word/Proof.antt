@@ -1,0 +1,8 @@
+-- `memory::get_word` meets its contract: either way has the word's own.
+-- Assumes nothing.
+use borrow.Author.Needs.{needs}
+use Rattle.memory.proofs.get_word.Statement.{statement}
+use Rattle.memory.proofs.get_word.Tie as tie
+
+pub get-word-spec : {M : Type 1} → statement M
+get-word-spec = tie.close (tie.spec (λ c κs. search needs) (λ c κs. search needs) (λ c. cc) (λ c. cc))

@@ -1,0 +1,56 @@
+-- `memory::put_each` meets its contract: each half is a byte, so the datum and the count fit; the second cycle goes by what the first left.
+-- Assumes nothing.
+use mathlib.Core.Path.{sym, ap, ap₂, _∙_}
+use mathlib.Core.List.{List}
+use Prim.Native.Nat.{ℕ}
+use native.Mathlib.Omega.{arith}
+use borrow.Author.Needs.{needs}
+use borrow.Author.Tests.{lt-ltb, le-ltb}
+use Rattle.memory.specs.Halves.{oddHalf}
+use Rattle.memory.specs.Cycles.{together, byteWrite, afterByteWrite}
+use Rattle.memory.proofs.OneByte.{OneByte, byte-write-one}
+use Rattle.memory.proofs.WordLaws.{word-write-serial, after-word-is, no-word-write, no-word-after}
+use Rattle.memory.proofs.put_each.Statement.{statement}
+use Rattle.memory.proofs.put_each.Tie as tie
+use Rattle.memory.proofs.put_each.Reads as reads
+use Rattle.memory.proofs.put_each.Lts as lts
+use Rattle.memory.proofs.byte_write.Reads as byte-write-reads
+
+-- what the two cycles moved, once the second has taken place
+both-bytes :
+    (c : lts.After-byte-write2 (byte-write-reads.Asked, byte-write-reads.Learnt) reads.Pre reads.Post) →
+    OneByte (c .before .before .before .before .byte-write .result) × OneByte (c .byte-write2 .result)
+both-bytes c =
+    let first = c .before .before .before .before in
+    let sixteen-bits = first .before .before .before .before .fits .datum in
+    (byte-write-one _ _ _ _ (first .byte-write .ensures .0) (omega arith), byte-write-one _ _ _ _ (c .byte-write2 .ensures .0) (omega arith))
+
+pub put-each-spec : {M : Type 1} → statement M
+put-each-spec =
+    tie.close
+    (tie.spec
+    (λ c. search needs)
+    (λ c κs. search needs)
+    (λ c. search needs)
+    (λ c κs. search needs)
+    (λ c. omega (arith, both-bytes (c .before .before .before)))
+    (λ c. omega (arith, both-bytes (c .before .before .before .before)))
+    (λ c. omega (arith, both-bytes (c .before .before .before .before .before .before)))
+    (λ c. search needs)
+    (λ c.
+    let second = c .before .before .before .before .before .before in
+    let first = second .before .before .before .before in
+    let start = first .before .before .before .before in
+    let v = start .args .datum in
+    let here = lt-ltb 1 _ (first .before .before .if1 .taken) in (
+      ap₂ together
+          (first .byte-write .ensures .0)
+          (second .byte-write2 .ensures .0 ∙ ap (λ (l : List ℕ). byteWrite l 1 (oddHalf v)) (first .byte-write .ensures .1))
+          ∙ sym (word-write-serial _ 0 _ here),
+      second .byte-write2 .ensures .1
+          ∙ ap (λ (l : List ℕ). afterByteWrite l 1 (oddHalf v)) (first .byte-write .ensures .1)
+          ∙ sym (after-word-is _ 0 _ _ here),
+    ))
+    (λ c.
+    let none = le-ltb 1 _ (c .if1 .left) in
+    (sym (no-word-write _ 0 _ _ none), sym (no-word-after _ 0 _ _ none))))

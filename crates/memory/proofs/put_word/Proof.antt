@@ -1,0 +1,16 @@
+-- `memory::put_word` meets its contract: either way has the word's own.
+-- Assumes nothing.
+use borrow.Author.Needs.{needs}
+use Rattle.memory.proofs.put_word.Statement.{statement}
+use Rattle.memory.proofs.put_word.Tie as tie
+
+pub put-word-spec : {M : Type 1} → statement M
+put-word-spec =
+    tie.close
+    (tie.spec
+    (λ c κs. search needs)
+    (λ c κs. search needs)
+    (λ c. search needs)
+    (λ c. (cc, cc))
+    (λ c. search needs)
+    (λ c. (cc, cc)))

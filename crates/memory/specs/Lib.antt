@@ -1,0 +1,5 @@
+-- Bytes and words in memory: the datum's halves, what a cycle moves and leaves, what is promised of it, and five bytes as an example.
+pub mod Halves
+pub mod Cycles
+pub mod Promises
+pub mod Examples

@@ -1,0 +1,141 @@
+-- What is promised of byte and word cycles, for a memory of any length. The proof of each stands in proofs/ under its name in lower case, with
+-- hyphens: that of SameBytes is same-bytes.
+use Prim.Native.Nat.{ℕ, _+_, _%_, _<_, _≤_}
+use mathlib.Core.Path.{_≡_}
+use mathlib.Core.Logic.{_⊎_, _↔_}
+use mathlib.Core.Bool.{Bool, true, false, cond}
+use mathlib.Core.List.{List, _++_}
+use lib.ListN.{length, getD, take, drop}
+use Rattle.memory.specs.declared.Moved.{Moved}
+use Rattle.memory.specs.Halves.{evenHalf, oddHalf, wordOf}
+use Rattle.memory.specs.Cycles.{
+  inOneCycle,
+  nothing,
+  byteRead,
+  byteWrite,
+  afterByteWrite,
+  pairAt,
+  hasWord,
+  wordRead,
+  wordWrite,
+  afterWordWrite,
+}
+
+-- ---- The datum's halves
+
+abbrev pub HalvesMakeTheDatum : Type 0
+HalvesMakeTheDatum = (datum : ℕ) → wordOf (evenHalf datum) (oddHalf datum) ≡ datum
+
+abbrev pub DatumHasItsHalves : Type 0
+DatumHasItsHalves = (even odd : ℕ) → odd < 0x100 → (evenHalf (wordOf even odd) ≡ even) × (oddHalf (wordOf even odd) ≡ odd)
+
+-- ---- Where a byte is, where a word is, and how many cycles each takes
+
+-- A byte of the memory is moved in one cycle, and a write answers what it wrote.
+abbrev pub ByteMoves : Type 0
+ByteMoves =
+    (m : List ℕ) (a : ℕ) → a < length m
+    → (byteRead m a ≡ inOneCycle (getD m a 0)) × ((b : ℕ) → byteWrite m a b ≡ inOneCycle b)
+
+abbrev pub BytePastTheEnd : Type 0
+BytePastTheEnd =
+    (m : List ℕ) (a : ℕ) → length m ≤ a
+    → (byteRead m a ≡ nothing) × ((b : ℕ) → (byteWrite m a b ≡ nothing) × (afterByteWrite m a b ≡ m))
+
+-- A word is found exactly at an even address with both bytes in the memory.
+abbrev pub WordLies : Type 0
+WordLies = (m : List ℕ) (a : ℕ) → (hasWord m a ≡ true) ↔ ((a % 2 ≡ 0) × (a + 1 < length m))
+
+-- one cycle on a sixteen-bit page, two on an eight-bit one
+abbrev pub inWordCycles : Bool → ℕ → Moved
+inWordCycles sixteen datum = record { datum = datum; cycles = cond sixteen 1 2 }
+
+-- There the even-addressed byte is read as the high half, a write answers what it wrote, and the page's width gives the cycles.
+abbrev pub WordMoves : Type 0
+WordMoves =
+    (sixteen : Bool) (m : List ℕ) (a : ℕ) → hasWord m a ≡ true
+    → (wordRead sixteen m a ≡ inWordCycles sixteen (wordOf (getD m a 0) (getD m (a + 1) 0)))
+    × ((datum : ℕ) → wordWrite sixteen m a datum ≡ inWordCycles sixteen datum)
+
+-- no cycle took place, and the memory is as it was
+pub record NoWord (m : List ℕ) (a : ℕ) : Type 0 where
+  pub read : (sixteen : Bool) → wordRead sixteen m a ≡ nothing
+  pub write : (sixteen : Bool) (datum : ℕ) → wordWrite sixteen m a datum ≡ nothing
+  pub unchanged : (sixteen : Bool) (datum : ℕ) → afterWordWrite sixteen m a datum ≡ m
+
+abbrev pub OddWord : Type 0
+OddWord = (m : List ℕ) (a : ℕ) → a % 2 ≡ 1 → NoWord m a
+
+abbrev pub WordPastTheEnd : Type 0
+WordPastTheEnd = (m : List ℕ) (a : ℕ) → length m ≤ a + 1 → NoWord m a
+
+-- ---- The two ways: they differ in cycles alone, also where there is no word.
+
+abbrev pub SameBytes : Type 0
+SameBytes = (m : List ℕ) (a datum : ℕ) → afterWordWrite true m a datum ≡ afterWordWrite false m a datum
+
+abbrev pub SameDatum : Type 0
+SameDatum =
+    (m : List ℕ) (a : ℕ)
+    → (wordRead true m a .datum ≡ wordRead false m a .datum)
+    × ((datum : ℕ) → wordWrite true m a datum .datum ≡ wordWrite false m a datum .datum)
+
+-- ---- What a write leaves alone
+
+-- after is as long as m and agrees with it but for n bytes from a on
+pub record SameOutside (a n : ℕ) (m after : List ℕ) : Type 0 where
+  pub size : length after ≡ length m
+  pub others : (k : ℕ) → (k < a) ⊎ (a + n ≤ k) → getD after k 0 ≡ getD m k 0
+
+abbrev pub ByteWriteKeeps : Type 0
+ByteWriteKeeps = (m : List ℕ) (a b : ℕ) → SameOutside a 1 m (afterByteWrite m a b)
+
+abbrev pub WordWriteKeeps : Type 0
+WordWriteKeeps = (sixteen : Bool) (m : List ℕ) (a datum : ℕ) → SameOutside a 2 m (afterWordWrite sixteen m a datum)
+
+-- A word's cycle needs its two bytes and no others: it is the same on the pair alone, put back in its place.
+abbrev pub WordOfItsPair : Type 0
+WordOfItsPair =
+    (sixteen : Bool) (m : List ℕ) (a : ℕ) → hasWord m a ≡ true
+    → (wordRead sixteen (pairAt m a) 0 ≡ wordRead sixteen m a)
+    × ((datum : ℕ)
+    → (wordWrite sixteen (pairAt m a) 0 datum ≡ wordWrite sixteen m a datum)
+    × (take a m ++ (afterWordWrite sixteen (pairAt m a) 0 datum ++ drop (a + 2) m) ≡ afterWordWrite sixteen m a datum))
+
+-- ---- What was written reads back: a read brings what the write answered.
+
+abbrev pub ByteReadsBack : Type 0
+ByteReadsBack = (m : List ℕ) (a b : ℕ) → byteRead (afterByteWrite m a b) a ≡ byteWrite m a b
+
+-- the write's way and the read's may be different ones; the cycles are those of the read's
+abbrev pub WordReadsBack : Type 0
+WordReadsBack = (wrote reads : Bool) (m : List ℕ) (a datum : ℕ) → wordRead reads (afterWordWrite wrote m a datum) a ≡ wordWrite reads m a datum
+
+-- A written word read by byte cycles: the high half is at the even address, the low half at the odd one.
+abbrev pub WordReadByBytes : Type 0
+WordReadByBytes =
+    (sixteen : Bool) (m : List ℕ) (a datum : ℕ) → hasWord m a ≡ true
+    → (byteRead (afterWordWrite sixteen m a datum) a ≡ inOneCycle (evenHalf datum))
+    × (byteRead (afterWordWrite sixteen m a datum) (a + 1) ≡ inOneCycle (oddHalf datum))
+
+-- And two written bytes read by a word cycle.
+abbrev pub BytesReadAsWord : Type 0
+BytesReadAsWord =
+    (sixteen : Bool) (m : List ℕ) (a even odd : ℕ) → hasWord m a ≡ true
+    → wordRead sixteen (afterByteWrite (afterByteWrite m a even) (a + 1) odd) a ≡ inWordCycles sixteen (wordOf even odd)
+
+-- ---- Bounds
+
+abbrev pub AllBytes : List ℕ → Type 0
+AllBytes m = (k : ℕ) → getD m k 0 < 0x100
+
+-- Bytes stay bytes,
+abbrev pub ByteWriteInRange : Type 0
+ByteWriteInRange = (m : List ℕ) → AllBytes m → (a b : ℕ) → b < 0x100 → AllBytes (afterByteWrite m a b)
+
+abbrev pub WordWriteInRange : Type 0
+WordWriteInRange = (sixteen : Bool) (m : List ℕ) → AllBytes m → (a datum : ℕ) → datum < 0x10000 → AllBytes (afterWordWrite sixteen m a datum)
+
+-- and what is read of them has eight bits, or sixteen.
+abbrev pub ReadsInRange : Type 0
+ReadsInRange = (m : List ℕ) → AllBytes m → (a : ℕ) → (byteRead m a .datum < 0x100) × ((sixteen : Bool) → wordRead sixteen m a .datum < 0x10000)

@@ -1,0 +1,77 @@
+-- The tables of the code as lists, with the rule of each computed over all of its entries, and beyond them over all that a byte can say.
+use Prim.Native.Nat.{ℕ, _+_, _<_, _≤_}
+use mathlib.Core.Path.{_≡_, refl}
+use mathlib.Core.Bool.{Bool, true, false, cond}
+use mathlib.Core.List.{List, [], _∷_}
+use native.Mathlib.Omega.{arith}
+use lib.Dec.{lit≤}
+use lib.ListN.{getD}
+use Rattle.words.specs.Below.{allBelow}
+use Rattle.words.specs.Among.{isAmong}
+use Rattle.words.proofs.BelowLaws.{same-below, same-in-rows, none-beyond}
+use Rattle.phases.specs.Signal.{isAcknowledged, signalsIn}
+use Rattle.phases.specs.Driver.{driverOf}
+use Rattle.phases.specs.Status.{statusOf}
+use Rattle.phases.specs.Control.{pHLDA, allowsCycles, isReading, isWriting, strobeOf}
+
+abbrev pub drivers : List (List ℕ)
+drivers =
+    (1 ∷ 1 ∷ 1 ∷ 1 ∷ [])
+    ∷ (1 ∷ 1 ∷ 1 ∷ 1 ∷ [])
+    ∷ (1 ∷ 1 ∷ 1 ∷ 1 ∷ [])
+    ∷ (0 ∷ 0 ∷ 0 ∷ 3 ∷ [])
+    ∷ (2 ∷ 2 ∷ 2 ∷ 2 ∷ [])
+    ∷ (0 ∷ 0 ∷ 0 ∷ 3 ∷ [])
+    ∷ []
+
+pub driver-entry : (phase group : ℕ) → phase < 6 → group < 4 → getD (getD drivers phase []) group 0 ≡ driverOf phase group
+unfolding allBelow
+driver-entry = same-in-rows (λ p g. getD (getD drivers p []) g 0) driverOf 6 4 refl
+
+abbrev pub signals : List ℕ
+signals = 0x00 ∷ 0x01 ∷ 0x03 ∷ 0x1F ∷ 0x3F ∷ 0x1E ∷ []
+
+pub signals-entry : (phase : ℕ) → phase < 6 → getD signals phase 0 ≡ signalsIn phase
+unfolding allBelow
+signals-entry = same-below (λ k. getD signals k 0) signalsIn 6 refl
+
+pub signals-beyond : (phase : ℕ) → 6 ≤ phase → phase < 256 → 0 ≡ signalsIn phase
+unfolding allBelow
+signals-beyond = none-beyond signalsIn 6 250 refl
+
+abbrev pub status : List ℕ
+status =
+    0 ∷ 0 ∷ 0 ∷ 0 ∷ 0 ∷ 0 ∷ 0x01 ∷ 0x03 ∷ 0x10 ∷ 0x01 ∷ 0x10 ∷ 0x04 ∷ 0x18 ∷ 0 ∷ 0 ∷ 0 ∷ []
+
+pub status-entry : (kind : ℕ) → kind < 16 → getD status kind 0 ≡ statusOf kind
+unfolding allBelow isAmong statusOf
+status-entry = same-below (λ k. getD status k 0) statusOf 16 refl
+
+pub status-beyond : (kind : ℕ) → 16 ≤ kind → kind < 256 → 0 ≡ statusOf kind
+unfolding allBelow isAmong statusOf
+status-beyond = none-beyond statusOf 16 240 refl
+
+abbrev pub strobes : List ℕ
+strobes = 0 ∷ 0 ∷ 0 ∷ 0 ∷ 0 ∷ 0 ∷ 4 ∷ 4 ∷ 8 ∷ 4 ∷ 8 ∷ 4 ∷ 8 ∷ 0 ∷ 0 ∷ 0 ∷ []
+
+pub strobe-entry : (kind : ℕ) → kind < 16 → getD strobes kind 0 ≡ strobeOf kind
+unfolding allBelow isAmong strobeOf
+strobe-entry = same-below (λ k. getD strobes k 0) strobeOf 16 refl
+
+pub strobe-beyond : (kind : ℕ) → 16 ≤ kind → kind < 256 → 0 ≡ strobeOf kind
+unfolding allBelow isAmong strobeOf
+strobe-beyond = none-beyond strobeOf 16 240 refl
+
+-- a strobe and pHLDA together fit a byte
+pub control-fits : (phase kind : ℕ) → cond (allowsCycles phase) (strobeOf kind) 0 + cond (isAcknowledged phase) pHLDA 0 < 256
+unfolding strobeOf
+control-fits phase kind =
+    omega (
+      arith,
+      at-most (allowsCycles phase) (strobeOf kind) 0 (at-most (isReading kind) 4 _ (lit≤ tt) (at-most (isWriting kind) 8 0 (lit≤ tt) (lit≤ tt))) (lit≤ tt),
+      at-most (isAcknowledged phase) pHLDA 0 (lit≤ tt) (lit≤ tt),
+    )
+  where
+    at-most : (b : Bool) (x y : ℕ) → x ≤ 16 → y ≤ 16 → cond b x y ≤ 16
+    at-most true x y hx hy = hx
+    at-most false x y hx hy = hy

@@ -1,0 +1,17 @@
+-- From what the two calls ensure; their sum fits a byte.
+use borrow.Author.Needs.{needs}
+use Rattle.phases.specs.Control.{controlIn}
+use Rattle.phases.proofs.TableRules.{control-fits}
+use Rattle.phases.proofs.tables.control.Statement.{statement}
+use Rattle.phases.proofs.tables.control.Tie as tie
+
+pub control-spec : {M : Type 1} → statement M
+unfolding controlIn
+control-spec =
+    tie.close
+    (tie.spec
+    (λ c κs. search needs)
+    (λ c κs. search needs)
+    (λ c.
+    record { fits = rw (c .before .strobe-in .ensures, c .hold-acknowledge .ensures) (control-fits (c .before .before .args .phase) (c .before .before .args .kind)) })
+    (λ c. rw (c .before .strobe-in .ensures, c .hold-acknowledge .ensures)))

@@ -1,0 +1,8 @@
+-- Read in this order: the phases; the signals true in each; who drives which lines; status by kind of cycle; control outputs; what is promised.
+pub mod Phase
+pub mod Signal
+pub mod Driver
+pub mod Status
+pub mod Control
+pub mod Promises
+pub mod Examples

@@ -1,0 +1,131 @@
+// What stands on the lines by phase and by kind of cycle, from constant tables: drivers, signals, status and control outputs.
+ghost use mathlib.Core.Path.{_≡_};
+ghost use mathlib.Core.Bool.{cond};
+ghost use Rattle.phases.specs.Signal.{isAcknowledged, signalsIn};
+ghost use Rattle.phases.specs.Driver.{driverOf};
+ghost use Rattle.phases.specs.Status.{statusOf};
+ghost use Rattle.phases.specs.Control.{pHLDA, allowsCycles, strobeOf, controlIn, isMWRT};
+use crate::numbers::*;
+
+// Who drives the address, status, data-out and control lines: a row for each phase.
+const DRIVERS: [[u8; 4]; 6] = [
+    [PERMANENT, PERMANENT, PERMANENT, PERMANENT],
+    [PERMANENT, PERMANENT, PERMANENT, PERMANENT],
+    [PERMANENT, PERMANENT, PERMANENT, PERMANENT],
+    [NO_DRIVER, NO_DRIVER, NO_DRIVER, BOTH],
+    [CARD, CARD, CARD, CARD],
+    [NO_DRIVER, NO_DRIVER, NO_DRIVER, BOTH],
+];
+
+// The true signals, phase by phase.
+const SIGNALS: [u8; 6] = [0x00, 0x01, 0x03, 0x1F, 0x3F, 0x1E];
+
+// The status byte, from the kind of event.
+const STATUS: [u8; 16] = [
+    0x00,
+    0x00,
+    0x00,
+    0x00,
+    0x00,
+    0x00,
+    0x01,
+    0x03,
+    0x10,
+    0x01,
+    0x10,
+    0x04,
+    0x18,
+    0x00,
+    0x00,
+    0x00,
+];
+
+// The data strobe, from the kind of event: pDBIN or pWR.
+const STROBES: [u8; 16] = [
+    0x00,
+    0x00,
+    0x00,
+    0x00,
+    0x00,
+    0x00,
+    0x04,
+    0x04,
+    0x08,
+    0x04,
+    0x08,
+    0x04,
+    0x08,
+    0x00,
+    0x00,
+    0x00,
+];
+
+// Who drives a group of lines in a phase; nobody, where there is no such phase or group.
+pub fn driver(phase: u8, group: u8) -> u8
+    ensures { λ r. ⌜ r ≡ driverOf phase group ⌝ }
+{
+    if phase < 6 {
+        if group < 4 {
+            return DRIVERS[phase as usize][group as usize];
+        }
+    }
+    NO_DRIVER
+}
+
+// The true signals in a phase, of those that go by the phase alone.
+pub fn signals(phase: u8) -> u8
+    ensures { λ r. ⌜ r ≡ signalsIn phase ⌝ }
+{
+    if phase < 6 {
+        SIGNALS[phase as usize]
+    } else {
+        0
+    }
+}
+
+// The status lines in a cycle of this kind; none is true in an event that is no cycle.
+pub fn status(kind: u8) -> u8
+    ensures { λ r. ⌜ r ≡ statusOf kind ⌝ }
+{
+    if kind < 16 { STATUS[kind as usize] } else { 0 }
+}
+
+fn strobe(kind: u8) -> u8
+    ensures { λ r. ⌜ r ≡ strobeOf kind ⌝ }
+{
+    if kind < 16 { STROBES[kind as usize] } else { 0 }
+}
+
+// MWRT, from the control outputs and the status lines.
+pub fn mwrt(control: u8, status: u8) -> bool
+    ensures { λ r. ⌜ r ≡ isMWRT control status ⌝ }
+{
+    ((control >> 3) % 2 == 1) & !((status >> 3) % 2 == 1)
+}
+
+// The true control outputs in a phase, with a cycle of this kind in it; a kind that is no cycle's has no strobe.
+pub fn control(phase: u8, kind: u8) -> u8
+    ensures { λ r. ⌜ r ≡ controlIn phase kind ⌝ }
+{
+    strobe_in(phase, kind) + hold_acknowledge(phase)
+}
+
+fn strobe_in(phase: u8, kind: u8) -> u8
+    ensures { λ r. ⌜ r ≡ cond (allowsCycles phase) (strobeOf kind) 0 ⌝ }
+{
+    if (phase == FREE) | (phase == ARBITRATION) | (phase == OWNED) {
+        strobe(kind)
+    } else {
+        0
+    }
+}
+
+fn hold_acknowledge(phase: u8) -> u8
+    ensures { λ r. ⌜ r ≡ cond (isAcknowledged phase) pHLDA 0 ⌝ }
+{
+    if (GRANTED <= phase) & (phase <= TRANSFER_TWO) {
+        0x10
+    } else {
+        0
+    }
+}
