@@ -1,4 +1,4 @@
--- Read in this order: phases, refusals and sets of cards; the state, its sense and setup; the steps; signals, drivers, status and control outputs; settle; all methods together; what is promised of them.
+-- Read in this order: the answers; sets of cards; the state, its sense and setup; the steps; settle; all methods together; what is promised; runs.
 pub mod Refusal
 pub mod Cards
 pub mod State
@@ -8,3 +8,4 @@ pub mod Steps
 pub mod Settle
 pub mod Method
 pub mod Promises
+pub mod Examples

@@ -63,7 +63,7 @@ impl Bus {
             let winner = self.lines();
             self.granted = winner;
             self.phase = GRANTED;
-            self.contenders = 0;
+            self.contenders = 0; // the others go idle
             self.driven = [0; 16];
         }
         self
@@ -97,7 +97,7 @@ impl Bus {
         ensures { λ r. ⌜ r ≡ givenBack self card ⌝ }
     {
         if self.may_hand(TRANSFER_TWO, card) {
-            self.phase = FREE;
+            self.phase = FREE; // pHLDA falls with it (house)
             self.granted = NOBODY;
         }
         self

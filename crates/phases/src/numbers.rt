@@ -1,4 +1,4 @@
-// Phases and drivers, under the names that specs/ has for them.
+// The numbers of 01 that go with phases and kinds, under the names that specs/ has for them.
 
 // Phases.
 pub const FREE: u8 = 0;
@@ -21,3 +21,34 @@ pub const PERMANENT: u8 = 1;
 pub const CARD: u8 = 2;
 
 pub const BOTH: u8 = 3;
+
+// Signals that go by the phase.
+pub const HOLD: u8 = 0x01;
+
+pub const P_HLDA: u8 = 0x02;
+
+pub const ADSB: u8 = 0x04;
+
+pub const SDSB: u8 = 0x08;
+
+pub const DODSB: u8 = 0x10;
+
+pub const CDSB: u8 = 0x20;
+
+// Status.
+pub const S_MEMR: u8 = 0x01;
+
+pub const S_M1: u8 = 0x02;
+
+pub const S_INP: u8 = 0x04;
+
+pub const S_OUT: u8 = 0x08;
+
+pub const S_WO: u8 = 0x10;
+
+// Control outputs, in a byte of their own.
+pub const C_DBIN: u8 = 0x04;
+
+pub const C_WR: u8 = 0x08;
+
+pub const C_HLDA: u8 = 0x10;

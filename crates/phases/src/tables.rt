@@ -17,47 +17,57 @@ const DRIVERS: [[u8; 4]; 6] = [
     [NO_DRIVER, NO_DRIVER, NO_DRIVER, BOTH],
 ];
 
-// The true signals, phase by phase.
-const SIGNALS: [u8; 6] = [0x00, 0x01, 0x03, 0x1F, 0x3F, 0x1E];
+// The disable lines that transfer one asserts together.
+const DISABLED: u8 = ADSB + SDSB + DODSB;
 
-// The status byte, from the kind of event.
-const STATUS: [u8; 16] = [
-    0x00,
-    0x00,
-    0x00,
-    0x00,
-    0x00,
-    0x00,
-    0x01,
-    0x03,
-    0x10,
-    0x01,
-    0x10,
-    0x04,
-    0x18,
-    0x00,
-    0x00,
-    0x00,
+// The true signals: an entry for each phase.
+const SIGNALS: [u8; 6] = [
+    0,
+    HOLD,
+    HOLD + P_HLDA,
+    HOLD + P_HLDA + DISABLED,
+    HOLD + P_HLDA + DISABLED + CDSB,
+    P_HLDA + DISABLED,
 ];
 
-// The data strobe, from the kind of event: pDBIN or pWR.
+// The status byte: an entry for each kind of event, from 00 to 0F.
+const STATUS: [u8; 16] = [
+    0,
+    0,
+    0,
+    0,
+    0,
+    0,
+    S_MEMR,
+    S_MEMR + S_M1,
+    S_WO,
+    S_MEMR,
+    S_WO,
+    S_INP,
+    S_OUT + S_WO,
+    0,
+    0,
+    0,
+];
+
+// The data strobe, in the same way.
 const STROBES: [u8; 16] = [
-    0x00,
-    0x00,
-    0x00,
-    0x00,
-    0x00,
-    0x00,
-    0x04,
-    0x04,
-    0x08,
-    0x04,
-    0x08,
-    0x04,
-    0x08,
-    0x00,
-    0x00,
-    0x00,
+    0,
+    0,
+    0,
+    0,
+    0,
+    0,
+    C_DBIN,
+    C_DBIN,
+    C_WR,
+    C_DBIN,
+    C_WR,
+    C_DBIN,
+    C_WR,
+    0,
+    0,
+    0,
 ];
 
 // Who drives a group of lines in a phase; nobody, where there is no such phase or group.
@@ -124,7 +134,7 @@ fn hold_acknowledge(phase: u8) -> u8
     ensures { λ r. ⌜ r ≡ cond (isAcknowledged phase) pHLDA 0 ⌝ }
 {
     if (GRANTED <= phase) & (phase <= TRANSFER_TWO) {
-        0x10
+        C_HLDA
     } else {
         0
     }

@@ -1,0 +1,112 @@
+-- The runs on small states, by computation.
+use mathlib.Core.Path.{refl}
+use Rattle.words.specs.Below.{allBelow, orBelow}
+use Rattle.words.specs.Among.{isAmong}
+use Rattle.words.specs.First.{firstOf, leastBelow}
+use Rattle.lines.specs.Look.{look}
+use Rattle.lines.specs.Arbitration.{everyContender, shown, looked, settled, afterLook}
+use Rattle.bus.specs.Cards.{someCard, isWithin}
+use Rattle.bus.specs.Sense.{pagesKnown, drivingFits, makesSense}
+use Rattle.bus.specs.Steps.{afterLooksOf}
+use Rattle.bus.specs.Settle.{settledAfter, leadingLooks, neverSettles, everyListed, settleRefusal, settleOf}
+use Rattle.bus.specs.Examples.{RoundsOnTheBus, SettleOnTheBus, SettleRefusals, PrintedRun, ZeroAndOwnBits, OutOfTurn, SenseCases}
+
+pub rounds-on-the-bus : RoundsOnTheBus
+unfolding allBelow orBelow look everyContender shown looked settled afterLook someCard isWithin afterLooksOf
+rounds-on-the-bus = record {
+  contending = refl;
+  one = refl;
+  two = refl;
+  three = refl;
+  threeRefused = refl;
+  four = refl;
+  grant = refl;
+}
+
+pub settle-on-the-bus : SettleOnTheBus
+unfolding allBelow orBelow look everyContender shown looked settled afterLook someCard isWithin afterLooksOf firstOf leastBelow pagesKnown drivingFits makesSense settledAfter leadingLooks neverSettles everyListed settleRefusal settleOf
+settle-on-the-bus = record {
+  twelve = refl;
+  twelveAccepted = refl;
+  twelveLines = refl;
+  nine = refl;
+  cardZero = refl;
+  cardZeroLooks = refl;
+  cardOneLooks = refl;
+  cardOneUnsettled = refl;
+}
+
+pub settle-refusals : SettleRefusals
+unfolding allBelow orBelow look everyContender shown looked settled afterLook someCard isWithin afterLooksOf firstOf leastBelow pagesKnown drivingFits makesSense settledAfter leadingLooks neverSettles everyListed settleRefusal settleOf
+settle-refusals = record {
+  senseless = refl;
+  malformed = refl;
+  unfitted = refl;
+  elsewhere = refl;
+  idle = refl;
+  unsettled = refl;
+}
+
+pub printed-run : PrintedRun
+unfolding allBelow orBelow look everyContender shown looked settled afterLook someCard isWithin afterLooksOf pagesKnown drivingFits makesSense
+printed-run = record {
+  atFirst = refl;
+  asked = refl;
+  oneLooked = refl;
+  threeLooked = refl;
+  tooEarly = refl;
+  looksAgain = refl;
+  grant = refl;
+  one = refl;
+  taken = refl;
+  two = refl;
+  holdFalse = refl;
+  refused = refl;
+  back = refl;
+}
+
+pub zero-and-own-bits : ZeroAndOwnBits
+unfolding allBelow orBelow look everyContender shown looked settled afterLook someCard isWithin
+zero-and-own-bits = record {
+  zeroSettled = refl;
+  zeroLines = refl;
+  zeroGranted = refl;
+  once = refl;
+  twice = refl;
+}
+
+pub out-of-turn : OutOfTurn
+unfolding allBelow orBelow look everyContender shown looked settled afterLook someCard isWithin afterLooksOf pagesKnown drivingFits makesSense
+out-of-turn = record {
+  requestNobody = refl;
+  requestUnfitted = refl;
+  lookIdle = refl;
+  lookOutside = refl;
+  lookOfNoCard = refl;
+  acknowledgeNobody = refl;
+  otherCard = refl;
+  tooSoon = refl;
+  notOwned = refl;
+  notYet = refl;
+  resetAnyhow = refl;
+}
+
+pub sense-cases : SenseCases
+unfolding allBelow orBelow look everyContender shown looked settled afterLook someCard isWithin afterLooksOf pagesKnown drivingFits makesSense
+sense-cases = record {
+  atRest = refl;
+  contending = refl;
+  granted = refl;
+  highCode = refl;
+  seventhPhase = refl;
+  unfittedContender = refl;
+  nobodyContends = refl;
+  contendsElsewhere = refl;
+  idleDrives = refl;
+  strayDriving = refl;
+  drivesTooMuch = refl;
+  unfittedGrant = refl;
+  noCardGranted = refl;
+  grantedWhileFree = refl;
+  badSetup = refl;
+}

@@ -1,0 +1,151 @@
+-- Runs of methods on small states: the looks of 4, 9 and 10 and settle over them (01, "Marked for proof", M1 to M8), the states of 01's printed
+-- run, a request in transfer two, and states that make no sense.
+use Prim.Native.Nat.{ℕ}
+use mathlib.Core.Path.{_≡_}
+use mathlib.Core.Bool.{true, false}
+use mathlib.Core.List.{List, [], _∷_, _++_, flatten}
+use lib.ListN.{getD, replicate, take}
+use Rattle.phases.specs.Phase as Phase
+use Rattle.phases.specs.Signal.{signalsIn}
+use Rattle.bus.specs.Refusal as Refusal
+use Rattle.bus.specs.State.{nobody, silent, stateOf, moved, linesOf, isSettled}
+use Rattle.bus.specs.Sense.{makesSense}
+use Rattle.bus.specs.Setup.{freeBus, emptyBus, setupOf}
+use Rattle.bus.specs.Steps.{requested, lookedBy, afterLooksOf, acknowledged}
+use Rattle.bus.specs.Settle.{settleOf}
+use Rattle.bus.specs.Method.{Method, request, look, acknowledge, beginTransferOne, takeBus, beginTransferTwo, giveBack, reset, settle, after}
+use Rattle.bus.specs.declared.state.Bus.{Bus}
+
+-- ---- Cards 4, 9 and 10 contend, nobody drives (M1 to M6)
+
+-- sixteen eight-bit pages
+abbrev pub eightBit : List ℕ
+eightBit = replicate 16 1
+
+abbrev pub fourNineTen : Bus
+fourNineTen = requested (freeBus 0xFFFF eightBit) 0x0610
+
+abbrev pub first : List ℕ
+first = 4 ∷ 9 ∷ 10 ∷ []
+
+abbrev pub again : List ℕ
+again = 9 ∷ 10 ∷ 4 ∷ []
+
+pub record RoundsOnTheBus : Type 0 where
+  pub contending : fourNineTen ≡ stateOf 0xFFFF eightBit Phase.arbitration 0x0610 silent nobody
+  pub one : linesOf (afterLooksOf fourNineTen first) ≡ 12
+  pub two : linesOf (afterLooksOf fourNineTen (first ++ again)) ≡ 8
+  pub three : linesOf (afterLooksOf fourNineTen (first ++ again ++ again)) ≡ 11
+  -- an acknowledge after three rounds changes nothing
+  pub threeRefused : acknowledged (afterLooksOf fourNineTen (first ++ again ++ again)) ≡ afterLooksOf fourNineTen (first ++ again ++ again)
+  pub four : linesOf (afterLooksOf fourNineTen (first ++ again ++ again ++ again)) ≡ 10
+  -- and after four it grants 10
+  pub grant : acknowledged (afterLooksOf fourNineTen (first ++ again ++ again ++ again)) ≡ stateOf 0xFFFF eightBit Phase.granted 0 silent 10
+
+pub record SettleOnTheBus : Type 0 where
+  -- M5: the twelve looks, of which ten are taken
+  pub twelve : settleOf fourNineTen (first ++ again ++ again ++ again) .looks ≡ 10
+  pub twelveAccepted : settleOf fourNineTen (first ++ again ++ again ++ again) .answer ≡ Refusal.accepted
+  pub twelveLines : linesOf (settleOf fourNineTen (first ++ again ++ again ++ again) .bus) ≡ 10
+  -- M6: the first nine
+  pub nine : settleOf fourNineTen (first ++ again ++ again) ≡ record { answer = Refusal.unsettled; bus = fourNineTen; looks = 0 }
+  -- M7 and M8: card 0 alone, and card 1 alone
+  pub cardZero : settleOf (requested (freeBus 0x0001 eightBit) 0x0001) [] .answer ≡ Refusal.accepted
+  pub cardZeroLooks : settleOf (requested (freeBus 0x0001 eightBit) 0x0001) (0 ∷ []) .looks ≡ 0
+  pub cardOneLooks : settleOf (requested (freeBus 0x0002 eightBit) 0x0002) (1 ∷ 1 ∷ []) .looks ≡ 1
+  -- an empty list doesn't settle card 1's lines
+  pub cardOneUnsettled : settleOf (requested (freeBus 0x0002 eightBit) 0x0002) [] .answer ≡ Refusal.unsettled
+
+-- Each refusal of settle, where those after it would apply too.
+pub record SettleRefusals : Type 0 where
+  pub senseless : settleOf (stateOf 0x0002 (replicate 16 3) Phase.free 0 silent nobody) (16 ∷ []) .answer ≡ 0x02
+  pub malformed : settleOf (freeBus 0x0002 eightBit) (3 ∷ 16 ∷ []) .answer ≡ 0x03
+  pub unfitted : settleOf (freeBus 0x0002 eightBit) (1 ∷ 3 ∷ []) .answer ≡ 0x05
+  pub elsewhere : settleOf (freeBus 0x0002 eightBit) (1 ∷ []) .answer ≡ 0x06
+  -- the whole list is judged, also where the lines are settled before any look
+  pub idle : settleOf (requested (freeBus 0x0003 eightBit) 0x0001) (0 ∷ 1 ∷ []) .answer ≡ 0x07
+  pub unsettled : settleOf (requested (freeBus 0x0003 eightBit) 0x0002) [] .answer ≡ 0x08
+
+-- ---- The states of 01's printed run, without its cycles
+
+abbrev pub run : Bus → List Method → Bus
+run bus [] = bus
+run bus (method ∷ methods) = run (after method bus) methods
+
+abbrev pub pages : List ℕ
+pages = 1 ∷ 2 ∷ replicate 14 0
+
+abbrev pub setUp : Bus
+setUp = setupOf 0x000A pages .bus
+
+-- the run up to the acknowledge that is taken
+abbrev pub upToGrant : List Method
+upToGrant = request 0x000A ∷ look 1 ∷ look 3 ∷ acknowledge ∷ look 1 ∷ acknowledge ∷ []
+
+pub record PrintedRun : Type 0 where
+  pub atFirst : setupOf 0x000A pages ≡ record { answer = Refusal.accepted; bus = stateOf 0x000A pages 0 0 silent 0xFF }
+  pub asked : run setUp (take 1 upToGrant) ≡ stateOf 0x000A pages 1 0x000A silent 0xFF
+  pub oneLooked : linesOf (run setUp (take 2 upToGrant)) ≡ 1
+  pub threeLooked : linesOf (run setUp (take 3 upToGrant)) ≡ 3
+  pub tooEarly : run setUp (take 4 upToGrant) ≡ run setUp (take 3 upToGrant)
+  pub looksAgain : linesOf (run setUp (take 5 upToGrant)) ≡ 3
+  pub grant : run setUp upToGrant ≡ stateOf 0x000A pages 2 0 silent 3
+  pub one : run setUp (upToGrant ++ (beginTransferOne 3 ∷ [])) ≡ stateOf 0x000A pages 3 0 silent 3
+  pub taken : run setUp (upToGrant ++ (beginTransferOne 3 ∷ takeBus 3 ∷ [])) ≡ stateOf 0x000A pages 4 0 silent 3
+  pub two : run setUp (upToGrant ++ (beginTransferOne 3 ∷ takeBus 3 ∷ beginTransferTwo 3 ∷ [])) ≡ stateOf 0x000A pages 5 0 silent 3
+  -- HOLD is false by now, and the request still changes nothing
+  pub holdFalse : signalsIn 5 ≡ 0x1E
+  pub refused : run setUp (upToGrant ++ (beginTransferOne 3 ∷ takeBus 3 ∷ beginTransferTwo 3 ∷ request 0x0002 ∷ [])) ≡ stateOf 0x000A pages 5 0 silent 3
+  pub back : run setUp (upToGrant ++ (beginTransferOne 3 ∷ takeBus 3 ∷ beginTransferTwo 3 ∷ giveBack 3 ∷ [])) ≡ setUp
+
+-- ---- Card 0, and a card's own bits
+
+-- card 1 alone contends, and drives 2, which it should not
+abbrev pub stray : Bus
+stray = stateOf 0x000A pages Phase.arbitration 0x0002 (0 ∷ 2 ∷ replicate 14 0) nobody
+
+pub record ZeroAndOwnBits : Type 0 where
+  -- lines at 0 are card 0's
+  pub zeroSettled : isSettled (requested (freeBus 0x0003 eightBit) 0x0001) ≡ true
+  pub zeroLines : linesOf (requested (freeBus 0x0003 eightBit) 0x0001) ≡ 0
+  pub zeroGranted : acknowledged (requested (freeBus 0x0003 eightBit) 0x0001) ≡ stateOf 0x0003 eightBit Phase.granted 0 silent 0
+  -- it sees its own 2, and drives 0 after one look and 1 after two
+  pub once : getD (lookedBy stray 1 .driven) 1 0 ≡ 0
+  pub twice : getD (lookedBy (lookedBy stray 1) 1 .driven) 1 0 ≡ 1
+
+-- ---- Methods out of turn hand back the state as given
+
+abbrev pub grantedThree : Bus
+grantedThree = stateOf 0x000A pages Phase.granted 0 silent 3
+
+pub record OutOfTurn : Type 0 where
+  pub requestNobody : requested setUp 0x0000 ≡ setUp
+  pub requestUnfitted : requested setUp 0x0003 ≡ setUp
+  pub lookIdle : lookedBy (requested setUp 0x0002) 3 ≡ requested setUp 0x0002
+  pub lookOutside : lookedBy setUp 1 ≡ setUp
+  pub lookOfNoCard : lookedBy (requested setUp 0x0002) 17 ≡ requested setUp 0x0002
+  pub acknowledgeNobody : acknowledged (stateOf 0x000A pages Phase.arbitration 0 silent 0xFF) ≡ stateOf 0x000A pages Phase.arbitration 0 silent 0xFF
+  pub otherCard : after (beginTransferOne 1) grantedThree ≡ grantedThree
+  pub tooSoon : after (takeBus 3) grantedThree ≡ grantedThree
+  pub notOwned : after (beginTransferTwo 3) grantedThree ≡ grantedThree
+  pub notYet : after (giveBack 3) grantedThree ≡ grantedThree
+  pub resetAnyhow : after reset grantedThree ≡ setUp
+
+-- ---- Sense and setup
+
+pub record SenseCases : Type 0 where
+  pub atRest : makesSense setUp ≡ true
+  pub contending : makesSense (requested setUp 0x000A) ≡ true
+  pub granted : makesSense grantedThree ≡ true
+  pub highCode : makesSense (stateOf 0x000A (3 ∷ replicate 15 0) 0 0 silent 0xFF) ≡ false
+  pub seventhPhase : makesSense (stateOf 0x000A pages 6 0 silent 0xFF) ≡ false
+  pub unfittedContender : makesSense (stateOf 0x000A pages 1 0x0003 silent 0xFF) ≡ false
+  pub nobodyContends : makesSense (stateOf 0x000A pages 1 0 silent 0xFF) ≡ false
+  pub contendsElsewhere : makesSense (stateOf 0x000A pages 0 0x0002 silent 0xFF) ≡ false
+  pub idleDrives : makesSense (stateOf 0x000A pages 1 0x0002 (1 ∷ replicate 15 0) 0xFF) ≡ false
+  pub strayDriving : makesSense (stateOf 0x000A pages 1 0x0002 (0 ∷ 2 ∷ replicate 14 0) 0xFF) ≡ true
+  pub drivesTooMuch : makesSense (stateOf 0x000A pages 1 0x0002 (0 ∷ 16 ∷ replicate 14 0) 0xFF) ≡ false
+  pub unfittedGrant : makesSense (stateOf 0x000A pages 2 0 silent 2) ≡ false
+  pub noCardGranted : makesSense (stateOf 0x000A pages 4 0 silent 0xFF) ≡ false
+  pub grantedWhileFree : makesSense (stateOf 0x000A pages 0 0 silent 3) ≡ false
+  pub badSetup : setupOf 0x000A (replicate 15 0 ++ (3 ∷ [])) ≡ record { answer = 0x0B; bus = stateOf 0 (replicate 16 0) 0 0 silent 0xFF }
