@@ -1,7 +1,6 @@
 -- The runs on small states, by computation.
 use mathlib.Core.Path.{refl}
 use Rattle.words.specs.Below.{allBelow, orBelow}
-use Rattle.words.specs.Among.{isAmong}
 use Rattle.words.specs.First.{firstOf, leastBelow}
 use Rattle.lines.specs.Look.{look}
 use Rattle.lines.specs.Arbitration.{everyContender, shown, looked, settled, afterLook}

@@ -1,31 +1,29 @@
 -- What every method keeps: the sense of a state, its fitted cards and its pages.
 use Prim.Native.Nat.{ℕ, _<_, _≤_}
-use mathlib.Core.Path.{_≡_, refl, sym, subst, ap, _∙_}
+use mathlib.Core.Path.{_≡_, refl, sym, subst, _∙_}
 use mathlib.Core.Logic.{_⊎_, inl, inr}
-use mathlib.Core.Bool.{Bool, true, false, cond, _&&_, and-eq-true-iff, true≢false}
+use mathlib.Core.Bool.{Bool, true, false, cond, and-eq-true-iff, true≢false}
 use mathlib.Core.List.{List, [], _∷_}
 use native.Mathlib.Nat.{le-of-suc-le-suc}
 use native.Mathlib.Omega.{arith}
 use lib.Dec.{eqb, lit≤}
-use lib.ListN.{length, getD, getD-replicate, take}
-use lib.Pow.{pow-pos}
-use borrow.Author.Tests.{eqb-true, eqb-false, eq-eqb, ne-eqb}
+use lib.ListN.{length, getD, getD-replicate, set, take}
+use borrow.Author.Tests.{eqb-true}
 use Rattle.words.proofs.TestLaws.{true-or-false, all-three}
 use Rattle.lines.specs.Arbitration.{afterLook, looked}
 use Rattle.lines.proofs.LevelLaws.{length-look, after-look, looked-in-range, idle-look}
 use Rattle.phases.specs.Phase as Phase
 use Rattle.bus.specs.Cards.{cardIn, someCard, isWithin}
 use Rattle.bus.specs.State.{nobody, silent, stateOf, moved, arbitrationOf, linesOf, isSettled}
-use Rattle.bus.specs.Sense.{makesSense}
 use Rattle.bus.specs.Setup.{freeBus}
-use Rattle.bus.specs.Steps.{mayRequest, requested, lookedBy, afterLooksOf, mayAcknowledge, acknowledged, mayHand, handed, givenBack, resetTo}
+use Rattle.bus.specs.Steps.{mayRequest, mayLook, lookedBy, afterLooksOf, mayAcknowledge, mayHand, resetTo}
 use Rattle.bus.specs.Settle.{leadingLooks, settleRefusal, refusedAs, settledBy, settleOf}
 use Rattle.bus.specs.Method.{Method, request, look, acknowledge, beginTransferOne, takeBus, beginTransferTwo, giveBack, reset, settle, after}
 use Rattle.bus.specs.Promises.{Sensible, SenseKept, CardsAndPagesKept}
 use Rattle.bus.specs.declared.state.Bus.{Bus}
 use Rattle.bus.proofs.CardLaws.{card-below, none-in-empty, within-at, some-at}
 use Rattle.bus.proofs.SenseLaws.{sense-means}
-use Rattle.bus.proofs.Arbitrated.{settled-highest}
+use Rattle.bus.proofs.Granting.{looked-by, settled-highest}
 
 silent-at : (n : ℕ) → n < 16 → getD silent n 0 ≡ 0
 silent-at n h = getD-replicate 16 n 0 0 h
@@ -73,9 +71,9 @@ request-sense bus cards s may = record {
     each = all-three (eqb (bus .phase) Phase.free) (someCard cards) (isWithin cards (bus .fitted)) may
 
 -- a look changes one level, to what four lines can show
-look-sense : (bus : Bus) (card : ℕ) → Sensible bus
+levels-sense : (bus : Bus) (card : ℕ) → Sensible bus
     → Sensible (moved bus (bus .phase) (bus .contenders) (afterLook (arbitrationOf bus) (bus .driven) card) (bus .granted))
-look-sense bus card s = record {
+levels-sense bus card s = record {
   sixteenPages = s .sixteenPages;
   sixteenLevels = length-look (arbitrationOf bus) (bus .driven) card ∙ s .sixteenLevels;
   codes = s .codes;
@@ -147,15 +145,24 @@ either-sense : (b : Bool) {taken left : Bus} → (b ≡ true → Sensible taken)
 either-sense true taken left = taken refl
 either-sense false taken left = left
 
+look-sense : (bus : Bus) (card : ℕ) → Sensible bus → Sensible (lookedBy bus card)
+look-sense bus card s = go (true-or-false (mayLook bus card))
+  where
+    go : (mayLook bus card ≡ true) ⊎ (mayLook bus card ≡ false) → Sensible (lookedBy bus card)
+    go (inl may) =
+        let here : bus .phase ≡ Phase.arbitration = eqb-true _ _ (and-eq-true-iff (eqb (bus .phase) Phase.arbitration) (cardIn (bus .contenders) card) .0 may .0) in
+        subst Sensible (sym (looked-by bus here card)) (levels-sense bus card s)
+    go (inr may) = rw may s
+
 looks-sense : (cards : List ℕ) (bus : Bus) → Sensible bus → Sensible (afterLooksOf bus cards)
 unfolding afterLooksOf
 looks-sense [] bus s = s
-looks-sense (card ∷ cards) bus s = looks-sense cards (lookedBy bus card) (either-sense (eqb (bus .phase) Phase.arbitration) (λ t. look-sense bus card s) s)
+looks-sense (card ∷ cards) bus s = looks-sense cards (lookedBy bus card) (look-sense bus card s)
 
 keeps-sense : (method : Method) (bus : Bus) → Sensible bus → Sensible (after method bus)
 unfolding settleOf
 keeps-sense (request cards) bus s = either-sense (mayRequest bus cards) (request-sense bus cards s) s
-keeps-sense (look card) bus s = either-sense (eqb (bus .phase) Phase.arbitration) (λ t. look-sense bus card s) s
+keeps-sense (look card) bus s = look-sense bus card s
 keeps-sense acknowledge bus s = either-sense (mayAcknowledge bus) (acknowledge-sense bus s) s
 keeps-sense (beginTransferOne card) bus s =
     either-sense (mayHand bus Phase.granted card) (hand-sense bus Phase.granted Phase.transferOne card (lit≤ tt) (lit≤ tt) (lit≤ tt) s) s
@@ -188,14 +195,14 @@ looks-kept : (cards : List ℕ) (bus : Bus) → Kept bus (afterLooksOf bus cards
 unfolding afterLooksOf Kept
 looks-kept [] bus = (refl, refl)
 looks-kept (card ∷ cards) bus =
-    let first = either-kept bus (eqb (bus .phase) Phase.arbitration) (bus .phase) (bus .contenders) (afterLook (arbitrationOf bus) (bus .driven) card) (bus .granted) in
+    let first = either-kept bus (mayLook bus card) (bus .phase) (bus .contenders) (set (bus .driven) card (looked (arbitrationOf bus) (bus .driven) card)) (bus .granted) in
     let rest = looks-kept cards (lookedBy bus card) in
     (rest .0 ∙ first .0, rest .1 ∙ first .1)
 
 pub cards-and-pages-kept : CardsAndPagesKept
 unfolding settleOf Kept
 cards-and-pages-kept (request cards) bus = either-kept bus (mayRequest bus cards) _ _ _ _
-cards-and-pages-kept (look card) bus = either-kept bus (eqb (bus .phase) Phase.arbitration) _ _ _ _
+cards-and-pages-kept (look card) bus = either-kept bus (mayLook bus card) _ _ _ _
 cards-and-pages-kept acknowledge bus = either-kept bus (mayAcknowledge bus) _ _ _ _
 cards-and-pages-kept (beginTransferOne card) bus = either-kept bus (mayHand bus Phase.granted card) _ _ _ _
 cards-and-pages-kept (takeBus card) bus = either-kept bus (mayHand bus Phase.transferOne card) _ _ _ _

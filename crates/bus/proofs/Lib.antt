@@ -1,6 +1,6 @@
 -- Laws that the functions' proofs cite, and the promises' proofs.
 pub mod AsComputed
-pub mod Arbitrated
+pub mod Granting
 pub mod CardLaws
 pub mod Kept
 pub mod Look

@@ -1,16 +1,14 @@
 -- What a state that makes sense is, sentence by sentence, and that the test says so.
-use Prim.Native.Nat.{ℕ, zero, suc, _<_, _≤_}
-use mathlib.Core.Path.{_≡_, refl, sym, subst, ap, ap₂, _∙_}
-use mathlib.Core.Logic.{_⊎_, inl, inr, ⊎-elim}
-use mathlib.Core.Bool.{Bool, true, false, cond, not, _&&_, _||_, and-eq-true-iff, true≢false, false≢true}
-use mathlib.Core.List.{List}
+use Prim.Native.Nat.{ℕ, _<_, _≤_}
+use mathlib.Core.Path.{_≡_, sym, subst, ap, _∙_}
+use mathlib.Core.Logic.{_⊎_, inl, inr}
+use mathlib.Core.Bool.{Bool, true, false, cond, not, _&&_, _||_, and-eq-true-iff, true≢false}
 use native.Mathlib.Nat.{le-of-eq}
 use native.Mathlib.Decide.{decLt}
 use native.Mathlib.Omega.{arith}
 use lib.Dec.{eqb, leb}
 use lib.ListN.{length, getD}
 use borrow.Author.Tests.{leb-true, le-leb, lt-leb, eqb-true, eqb-false, eq-eqb, ne-eqb, not-true}
-use Rattle.words.specs.Below.{allBelow}
 use Rattle.words.proofs.TestLaws.{true-or-false, all-three, then-of, else-of, of-then, of-else}
 use Rattle.words.proofs.BelowLaws.{all-at, all-of}
 use Rattle.phases.specs.Phase as Phase

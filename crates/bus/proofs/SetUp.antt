@@ -7,7 +7,7 @@ use mathlib.Core.List.{List}
 use native.Mathlib.Nat.{le-of-eq, le-trans}
 use native.Mathlib.Omega.{arith}
 use lib.Dec.{eqb, lit≤}
-use lib.ListN.{length, getD, getD-replicate, replicate}
+use lib.ListN.{getD, getD-replicate, replicate}
 use borrow.Author.Tests.{leb-true, le-leb}
 use Rattle.words.specs.Bits.{bitAt}
 use Rattle.words.proofs.TestLaws.{true-or-false}

@@ -1,14 +1,13 @@
 -- Where the looks of a list stop, and what settle then answers.
-use Prim.Native.Nat.{ℕ, suc, _+_, _<_, _≤_}
+use Prim.Native.Nat.{ℕ, suc, _<_, _≤_}
 use mathlib.Core.Path.{_≡_, refl, sym, ap, _∙_}
 use mathlib.Core.Logic.{⊎-elim}
 use mathlib.Core.Bool.{Bool, true, false, cond, not, true≢false}
 use mathlib.Core.List.{List, [], _∷_}
-use native.Mathlib.Numerals.{add-one}
 use native.Mathlib.Omega.{arith}
 use lib.Dec.{eqb, lit<}
 use lib.ListN.{length, take}
-use borrow.Author.Tests.{eq-eqb, ne-eqb, not-true}
+use borrow.Author.Tests.{ne-eqb, not-true}
 use Rattle.words.specs.First.{reason, firstOf}
 use Rattle.words.proofs.TestLaws.{true-or-false}
 use Rattle.words.proofs.BelowLaws.{last-or-below, all-at, all-of}
@@ -16,17 +15,7 @@ use Rattle.words.proofs.FirstLaws.{numbered, first-append, least-is}
 use Rattle.bus.specs.Refusal as Refusal
 use Rattle.bus.specs.State.{isSettled}
 use Rattle.bus.specs.Steps.{afterLooksOf}
-use Rattle.bus.specs.Settle.{
-  settledAfter,
-  leadingLooks,
-  neverSettles,
-  listReasons,
-  listRefusal,
-  settleRefusal,
-  refusedAs,
-  settledBy,
-  settleOf,
-}
+use Rattle.bus.specs.Settle.{settledAfter, leadingLooks, neverSettles, listReasons, listRefusal, settleRefusal, refusedAs, settledBy, settleOf}
 use Rattle.bus.specs.declared.state.Bus.{Bus}
 use Rattle.bus.specs.declared.settle.Settlement.{Settlement}
 

@@ -1,7 +1,7 @@
 -- What settle answers: the least count, or the state as given.
 use Prim.Native.Nat.{ℕ, suc, suc-le-suc, _<_, _≤_}
 use mathlib.Core.Path.{_≡_, refl, sym, subst, ap, _∙_}
-use mathlib.Core.Logic.{_⊎_, inl, inr, ⊎-elim}
+use mathlib.Core.Logic.{_⊎_, inl, inr}
 use mathlib.Core.Bool.{Bool, true, false, cond, not, true≢false}
 use mathlib.Core.List.{List, [], _∷_, _++_, flatten}
 use native.Mathlib.Nat.{le-refl, le-of-suc-le-suc}
@@ -10,7 +10,6 @@ use lib.Dec.{eqb}
 use lib.ListN.{length, take}
 use lib.Seq.{take-length}
 use borrow.Author.Tests.{eqb-true, eqb-false, eq-eqb, ne-eqb, not-true, not-false}
-use Rattle.words.specs.Below.{allBelow}
 use Rattle.words.specs.First.{firstOf, ascendsFrom}
 use Rattle.words.proofs.TestLaws.{true-or-false}
 use Rattle.words.proofs.BelowLaws.{all-at, all-of, some-not}
@@ -25,7 +24,7 @@ use Rattle.bus.specs.Settle.{settledAfter, leadingLooks, neverSettles, i
 use Rattle.bus.specs.Promises.{SettledBy, SettleRefusedKeeps, SettleCountsLeast, SettleByNumber, SettleUnsettled, FourRoundsListed}
 use Rattle.bus.specs.declared.state.Bus.{Bus}
 use Rattle.bus.specs.declared.settle.Settlement.{Settlement}
-use Rattle.bus.proofs.Arbitrated.{highest-there, four-rounds}
+use Rattle.bus.proofs.Granting.{highest-there, four-rounds}
 use Rattle.bus.proofs.SettleLaws.{judged}
 
 module _ (bus : Bus) (cards : List ℕ) where

@@ -3,17 +3,17 @@
 use Prim.Native.Nat.{ℕ}
 use mathlib.Core.Path.{_≡_}
 use mathlib.Core.Bool.{true, false}
-use mathlib.Core.List.{List, [], _∷_, _++_, flatten}
+use mathlib.Core.List.{List, [], _∷_, _++_}
 use lib.ListN.{getD, replicate, take}
 use Rattle.phases.specs.Phase as Phase
 use Rattle.phases.specs.Signal.{signalsIn}
 use Rattle.bus.specs.Refusal as Refusal
-use Rattle.bus.specs.State.{nobody, silent, stateOf, moved, linesOf, isSettled}
+use Rattle.bus.specs.State.{nobody, silent, stateOf, linesOf, isSettled}
 use Rattle.bus.specs.Sense.{makesSense}
-use Rattle.bus.specs.Setup.{freeBus, emptyBus, setupOf}
+use Rattle.bus.specs.Setup.{freeBus, setupOf}
 use Rattle.bus.specs.Steps.{requested, lookedBy, afterLooksOf, acknowledged}
 use Rattle.bus.specs.Settle.{settleOf}
-use Rattle.bus.specs.Method.{Method, request, look, acknowledge, beginTransferOne, takeBus, beginTransferTwo, giveBack, reset, settle, after}
+use Rattle.bus.specs.Method.{Method, request, look, acknowledge, beginTransferOne, takeBus, beginTransferTwo, giveBack, reset, after}
 use Rattle.bus.specs.declared.state.Bus.{Bus}
 
 -- ---- Cards 4, 9 and 10 contend, nobody drives (M1 to M6)

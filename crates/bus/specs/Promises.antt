@@ -14,7 +14,7 @@ use Rattle.bus.specs.Cards.{cardIn}
 use Rattle.bus.specs.State.{nobody, silent, moved, arbitrationOf, linesOf, isSettled}
 use Rattle.bus.specs.Sense.{makesSense}
 use Rattle.bus.specs.Setup.{freeBus, emptyBus, setupOf}
-use Rattle.bus.specs.Steps.{requested, lookedBy, afterLooksOf, acknowledged}
+use Rattle.bus.specs.Steps.{requested, afterLooksOf, acknowledged}
 use Rattle.phases.specs.Signal.{signalsIn}
 use Rattle.bus.specs.Settle.{settleReasons, listRefusal, settleOf}
 use Rattle.bus.specs.Method.{Method, after}

@@ -4,9 +4,10 @@ use Prim.Native.Nat.{ℕ}
 use mathlib.Core.Bool.{Bool, cond, _&&_}
 use mathlib.Core.List.{List, [], _∷_}
 use lib.Dec.{eqb}
-use Rattle.lines.specs.Arbitration.{afterLook}
+use lib.ListN.{set}
+use Rattle.lines.specs.Arbitration.{looked}
 use Rattle.phases.specs.Phase as Phase
-use Rattle.bus.specs.Cards.{someCard, isWithin}
+use Rattle.bus.specs.Cards.{cardIn, someCard, isWithin}
 use Rattle.bus.specs.State.{moved, silent, nobody, arbitrationOf, linesOf, isSettled}
 use Rattle.bus.specs.declared.state.Bus.{Bus}
 
@@ -20,11 +21,15 @@ mayRequest bus cards = eqb (bus .phase) Phase.free && someCard cards && isWithin
 abbrev pub requested : Bus → ℕ → Bus
 requested bus cards = cond (mayRequest bus cards) (moved bus Phase.arbitration cards silent (bus .granted)) bus
 
--- a contender's look sets what it drives
+-- the cards arbitrate, and this one contends
+abbrev pub mayLook : Bus → ℕ → Bool
+mayLook bus card = eqb (bus .phase) Phase.arbitration && cardIn (bus .contenders) card
+
+-- its look sets what it drives, the lines with its own bits on them deciding
 abbrev pub lookedBy : Bus → ℕ → Bus
 lookedBy bus card =
-    cond (eqb (bus .phase) Phase.arbitration)
-    (moved bus (bus .phase) (bus .contenders) (afterLook (arbitrationOf bus) (bus .driven) card) (bus .granted))
+    cond (mayLook bus card)
+    (moved bus (bus .phase) (bus .contenders) (set (bus .driven) card (looked (arbitrationOf bus) (bus .driven) card)) (bus .granted))
     bus
 
 -- looks one after another

@@ -4,6 +4,7 @@ ghost use mathlib.Core.Path.{_≡_};
 ghost use Rattle.bus.specs.Steps.{
   mayRequest,
   requested,
+  mayLook,
   lookedBy,
   mayAcknowledge,
   acknowledged,
@@ -46,13 +47,17 @@ impl Bus {
     pub fn look(mut self, card: u8) -> Bus
         ensures { λ r. ⌜ r ≡ lookedBy self card ⌝ }
     {
-        if self.phase == ARBITRATION {
-            if card_in(self.contenders, card) {
-                let lines = self.lines();
-                self.driven[card as usize] = look_at(card, lines);
-            }
+        if self.may_look(card) {
+            let lines = self.lines();
+            self.driven[card as usize] = look_at(card, lines);
         }
         self
+    }
+
+    fn may_look(self, card: u8) -> bool
+        ensures { λ r. ⌜ r ≡ mayLook self card ⌝ }
+    {
+        (self.phase == ARBITRATION) & card_in(self.contenders, card)
     }
 
     // The permanent master answers HOLD: the contender whose number the settled lines show is granted.

@@ -1,5 +1,5 @@
 -- Who drives which group of lines (000, 2.8.2.3; 01, "State and phases").
-use Prim.Native.Nat.{ℕ, _+_}
+use Prim.Native.Nat.{ℕ}
 use mathlib.Core.Bool.{Bool, cond, not, _&&_}
 use lib.Dec.{eqb, leb}
 use Rattle.phases.specs.Phase as Phase

@@ -1,6 +1,6 @@
 -- The status lines in a cycle, by its kind (000, 2.2.3.2; 01, "Bytes, words, status").
 use Prim.Native.Nat.{ℕ, _+_}
-use mathlib.Core.Bool.{Bool, cond}
+use mathlib.Core.Bool.{cond}
 use mathlib.Core.List.{[], _∷_}
 use Rattle.words.specs.Among.{isAmong}
 

@@ -1,15 +1,209 @@
-// Prints the tables of the bus and a few runs of its methods, in hexadecimal. The file stdout beside src/ holds what 01 and 000 say.
-mod printing;
-mod rounds;
-mod run;
-mod tables;
-mod words;
+// Prints the tables of the bus and runs of its methods, in hexadecimal. The file stdout beside src/ holds what 01 and 000 say.
+use bus::Bus;
+use bus::Settlement;
+use memory::Moved;
 
 fn main() {
-    tables::drivers_and_signals();
-    tables::kinds();
-    run::printed_run();
-    rounds::four_nine_ten();
-    rounds::settle();
-    words::words();
+    drivers_and_signals();
+    kinds();
+    printed_run();
+    four_nine_ten();
+    settles();
+    words();
+}
+
+// ---- Printing
+
+fn digit(n: u8) -> u8 {
+    if n < 10 { 48 + n } else { 55 + n % 16 }
+}
+
+fn put(b: u8) {
+    let digits = [digit(b / 16), digit(b % 16)];
+    io::write_all(1, &digits);
+}
+
+fn put_word(w: u16) {
+    put((w / 256) as u8);
+    put((w % 256) as u8);
+}
+
+fn end_line() {
+    io::write_all(1, b"\n");
+}
+
+// A line that names what follows.
+fn title(text: &[u8]) {
+    io::write_all(1, text);
+    end_line();
+}
+
+// ---- The tables, by phase and by kind
+
+// Phase; who drives address, status, data-out and control; signals; control outputs with no cycle.
+fn phase_row(phase: u8) {
+    put(phase);
+    put(phases::driver(phase, 0));
+    put(phases::driver(phase, 1));
+    put(phases::driver(phase, 2));
+    put(phases::driver(phase, 3));
+    put(phases::signals(phase));
+    put(phases::control(phase, 0));
+    end_line();
+}
+
+fn drivers_and_signals() {
+    title(b"phase, drivers of address, status, data-out and control, signals, control outputs");
+    phase_row(0);
+    phase_row(1);
+    phase_row(2);
+    phase_row(3);
+    phase_row(4);
+    phase_row(5);
+    phase_row(6);
+}
+
+// 1 where MWRT is true in the permanent master's cycle of this kind.
+fn memory_write(kind: u8) -> u8 {
+    if phases::mwrt(phases::control(0, kind), phases::status(kind)) {
+        1
+    } else {
+        0
+    }
+}
+
+// Kind; status; MWRT; control outputs in the permanent master's cycle, and in transfer one.
+fn kind_row(kind: u8) {
+    put(kind);
+    put(phases::status(kind));
+    put(memory_write(kind));
+    put(phases::control(0, kind));
+    put(phases::control(3, kind));
+    end_line();
+}
+
+fn kinds() {
+    title(b"kind, status, MWRT, control outputs in phases 0 and 3");
+    kind_row(0x05);
+    kind_row(0x06);
+    kind_row(0x07);
+    kind_row(0x08);
+    kind_row(0x09);
+    kind_row(0x0A);
+    kind_row(0x0B);
+    kind_row(0x0C);
+    kind_row(0x0D);
+}
+
+// ---- The states of 01's printed run, its cycles left out
+
+// Phase, granted card, lines and signals, as the answer lines have them.
+fn show_bus(bus: Bus) -> Bus {
+    put(bus.phase);
+    put(bus.granted);
+    put(bus.lines());
+    put(phases::signals(bus.phase));
+    end_line();
+    bus
+}
+
+fn arbitrate(bus: Bus) -> Bus {
+    let b = show_bus(bus.request(0x000A));
+    let b = show_bus(b.look(1));
+    let b = show_bus(b.look(3));
+    let b = show_bus(b.acknowledge());
+    let b = show_bus(b.look(1));
+    show_bus(b.acknowledge())
+}
+
+fn hand_over_and_back(bus: Bus) -> Bus {
+    let b = show_bus(bus.begin_transfer_one(3));
+    let b = show_bus(b.take_bus(3));
+    let b = show_bus(b.begin_transfer_two(3));
+    let b = show_bus(b.request(0x0002));
+    show_bus(b.give_back(3))
+}
+
+fn printed_run() {
+    title(b"the printed run: phase, granted, lines, signals");
+    let made = Bus::setup(0x000A, [1, 2, 0, 0, 0, 0, 0, 0, 0, 0, 0, 0, 0, 0, 0, 0]);
+    put(made.answer);
+    end_line();
+    let b = show_bus(made.bus);
+    let b = arbitrate(b);
+    hand_over_and_back(b);
+}
+
+// ---- The looks and settles that 01 marks for proof, M1 to M8
+
+fn contending(fitted: u16, cards: u16) -> Bus {
+    Bus::setup(fitted, [1; 16]).bus.request(cards)
+}
+
+fn round(bus: Bus, first: u8, second: u8, third: u8) -> Bus {
+    let b = bus.look(first).look(second).look(third);
+    put(b.lines());
+    end_line();
+    b
+}
+
+fn four_nine_ten() {
+    title(b"4, 9 and 10 contend: lines after each of four rounds, then phase and granted");
+    let b = round(contending(0xFFFF, 0x0610), 4, 9, 10);
+    let b = round(b, 9, 10, 4);
+    let b = round(b, 9, 10, 4);
+    let early = b.acknowledge();
+    put(early.phase);
+    put(early.granted);
+    end_line();
+    let b = round(b, 9, 10, 4).acknowledge();
+    put(b.phase);
+    put(b.granted);
+    end_line();
+}
+
+// Answer, looks, lines.
+fn show_settlement(s: Settlement) {
+    put(s.answer);
+    put((s.looks % 256) as u8);
+    put(s.bus.lines());
+    end_line();
+}
+
+fn settles() {
+    title(b"settle: answer, looks, lines");
+    show_settlement(contending(0xFFFF, 0x0610).settle(&[4, 9, 10, 9, 10, 4, 9, 10, 4, 9, 10, 4]));
+    show_settlement(contending(0xFFFF, 0x0610).settle(&[4, 9, 10, 9, 10, 4, 9, 10, 4]));
+    show_settlement(contending(0x0001, 0x0001).settle(&[0]));
+    show_settlement(contending(0x0002, 0x0002).settle(&[1]));
+}
+
+// ---- Words over pages of either width
+
+// Cycles and datum.
+fn show_moved(moved: Moved) {
+    put(moved.cycles);
+    put_word(moved.datum);
+    end_line();
+}
+
+// 1234 written at 2 among six bytes of EE, which are then read back: as bytes, and as a word over either page.
+fn at_two(sixteen: bool) {
+    let mut m: [u8; 6] = [0xEE; 6];
+    show_moved(memory::word_write(&mut m, 2, 0x1234, sixteen));
+    put(m[1]);
+    put(m[2]);
+    put(m[3]);
+    put(m[4]);
+    end_line();
+    show_moved(memory::word_read(&m, 2, false));
+    show_moved(memory::word_read(&m, 2, true));
+}
+
+fn words() {
+    title(
+        b"a word at 2: cycles and datum written, bytes 1 to 4, cycles and datum read over eight and sixteen bits",
+    );
+    at_two(false);
+    at_two(true);
 }

@@ -1,6 +1,6 @@
 -- The laws of `firstOf` and `leastBelow`.
 use Prim.Native.Nat.{ℕ, zero, suc, suc-le-suc, _<_, _≤_}
-use mathlib.Core.Path.{_≡_, refl, sym, subst, ap, _∙_}
+use mathlib.Core.Path.{_≡_, refl, sym, subst, _∙_}
 use mathlib.Core.Logic.{_⊎_, inl, inr, ⊎-elim}
 use mathlib.Core.Bool.{Bool, true, false, cond, _&&_, _||_, and-eq-true-iff, true≢false}
 use mathlib.Core.List.{List, [], _∷_, _++_}
@@ -8,9 +8,7 @@ use native.Mathlib.Nat.{not-suc-le-zero, le-of-suc-le-suc, le-refl, lt-trans, lt
 use native.Mathlib.Decide.{decLt}
 use native.Mathlib.Omega.{arith}
 use lib.Dec.{eqb, ltb}
-use lib.ListN.{length}
-use borrow.Author.Tests.{ltb-true, lt-ltb, eqb-true, eq-eqb, ne-eqb}
-use Rattle.words.specs.Below.{allBelow}
+use borrow.Author.Tests.{ltb-true, eqb-true, eq-eqb, ne-eqb}
 use Rattle.words.specs.First.{Reason, firstOf, appliesAs, ascendsFrom, leastBelow}
 use Rattle.words.specs.Promises.{FirstByNumber, NoneApplies, LeastPassing}
 use Rattle.words.proofs.TestLaws.{true-or-false, either-of}

@@ -9,8 +9,6 @@ use Rattle.words.proofs.BelowLaws.{all-start, all-next, at-bound}
 use Rattle.bus.specs.Settle.{everyListed}
 use Rattle.bus.proofs.settle.all_cards.Statement.{statement}
 use Rattle.bus.proofs.settle.all_cards.Tie as tie
-use Rattle.bus.proofs.settle.all_cards.Reads as reads
-use Rattle.bus.proofs.settle.all_cards.Lts as lts
 
 abbrev Inv-loop : tie.InvT-loop
 Inv-loop cards all₀ i₀ all i =

@@ -10,8 +10,6 @@ use Rattle.bus.specs.Cards.{cardIn}
 use Rattle.bus.specs.Settle.{everyListed}
 use Rattle.bus.proofs.settle.all_in.Statement.{statement}
 use Rattle.bus.proofs.settle.all_in.Tie as tie
-use Rattle.bus.proofs.settle.all_in.Reads as reads
-use Rattle.bus.proofs.settle.all_in.Lts as lts
 
 abbrev Inv-loop : tie.InvT-loop
 Inv-loop set cards all₀ i₀ all i =

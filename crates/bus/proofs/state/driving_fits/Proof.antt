@@ -1,7 +1,7 @@
 -- The cards passed drive what they may.
 use Prim.Native.Nat.{_≤_, _-_}
-use mathlib.Core.Path.{_≡_, ap, _∙_}
-use mathlib.Core.Bool.{cond, _&&_}
+use mathlib.Core.Path.{_≡_, ap}
+use mathlib.Core.Bool.{cond}
 use native.Mathlib.Omega.{arith}
 use borrow.Author.Needs.{needs}
 use lib.Dec.{leb}
@@ -12,8 +12,6 @@ use Rattle.bus.specs.Cards.{cardIn}
 use Rattle.bus.specs.Sense.{drivingFits}
 use Rattle.bus.proofs.state.driving_fits.Statement.{statement}
 use Rattle.bus.proofs.state.driving_fits.Tie as tie
-use Rattle.bus.proofs.state.driving_fits.Reads as reads
-use Rattle.bus.proofs.state.driving_fits.Lts as lts
 
 abbrev Inv-loop : tie.InvT-loop
 Inv-loop contenders driven fits₀ n₀ fits n =

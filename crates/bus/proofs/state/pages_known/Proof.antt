@@ -1,6 +1,6 @@
 -- The codes seen so far are known.
 use Prim.Native.Nat.{_≤_, _-_}
-use mathlib.Core.Path.{_≡_, refl, _∙_, ap}
+use mathlib.Core.Path.{_≡_, refl}
 use native.Mathlib.Omega.{arith}
 use lib.Dec.{leb}
 use lib.ListN.{getD}
@@ -9,8 +9,6 @@ use Rattle.words.proofs.BelowLaws.{all-start, all-next, at-bound}
 use Rattle.bus.specs.Sense.{pagesKnown}
 use Rattle.bus.proofs.state.pages_known.Statement.{statement}
 use Rattle.bus.proofs.state.pages_known.Tie as tie
-use Rattle.bus.proofs.state.pages_known.Reads as reads
-use Rattle.bus.proofs.state.pages_known.Lts as lts
 
 abbrev Inv-loop : tie.InvT-loop
 Inv-loop pages known₀ p₀ known p = (p ≤ 16) × (known ≡ allBelow (λ i. leb (getD pages i 0) 2) p)

@@ -3,8 +3,6 @@ use mathlib.Core.Path.{sym, _∙_}
 use borrow.Author.Needs.{needs}
 use Rattle.bus.proofs.state.Bus.acknowledge.Statement.{statement}
 use Rattle.bus.proofs.state.Bus.acknowledge.Tie as tie
-use Rattle.bus.proofs.state.Bus.acknowledge.Reads as reads
-use Rattle.bus.proofs.state.Bus.acknowledge.Lts as lts
 
 pub acknowledge-spec : {M : Type 1} → statement M
 acknowledge-spec =

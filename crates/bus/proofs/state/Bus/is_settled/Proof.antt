@@ -1,5 +1,5 @@
 -- The contenders passed would go on driving what they drive.
-use Prim.Native.Nat.{ℕ, _≤_, _-_}
+use Prim.Native.Nat.{_≤_, _-_}
 use mathlib.Core.Path.{_≡_}
 use mathlib.Core.Bool.{not, _||_}
 use native.Mathlib.Omega.{arith}
@@ -14,8 +14,6 @@ use Rattle.bus.specs.Cards.{cardIn}
 use Rattle.bus.specs.State.{linesOf}
 use Rattle.bus.proofs.state.Bus.is_settled.Statement.{statement}
 use Rattle.bus.proofs.state.Bus.is_settled.Tie as tie
-use Rattle.bus.proofs.state.Bus.is_settled.Reads as reads
-use Rattle.bus.proofs.state.Bus.is_settled.Lts as lts
 
 abbrev Inv-loop : tie.InvT-loop
 Inv-loop self driven lines settled₀ n₀ settled n =

@@ -1,19 +1,16 @@
 -- The lines so far are the OR of what the cards passed drive.
 use Prim.Native.Nat.{_≤_, _-_}
-use mathlib.Core.Path.{_≡_, ap, _∙_}
+use mathlib.Core.Path.{_≡_}
 use mathlib.Core.Bool.{cond}
 use native.Mathlib.Omega.{arith}
 use borrow.Author.Needs.{needs}
 use lib.ListN.{getD}
-use lib.Bits.{bitOr}
 use Rattle.words.specs.Below.{orBelow}
 use Rattle.words.proofs.BelowLaws.{or-start, or-next, at-bound}
 use Rattle.lines.specs.Arbitration.{shown}
 use Rattle.bus.specs.Cards.{cardIn}
 use Rattle.bus.proofs.state.Bus.lines.Statement.{statement}
 use Rattle.bus.proofs.state.Bus.lines.Tie as tie
-use Rattle.bus.proofs.state.Bus.lines.Reads as reads
-use Rattle.bus.proofs.state.Bus.lines.Lts as lts
 
 abbrev Inv-loop : tie.InvT-loop
 Inv-loop self driven lines₀ n₀ lines n =

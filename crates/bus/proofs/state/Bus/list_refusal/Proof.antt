@@ -7,8 +7,6 @@ use Rattle.words.specs.First.{firstOf}
 use Rattle.bus.specs.Settle.{listRefusal}
 use Rattle.bus.proofs.state.Bus.list_refusal.Statement.{statement}
 use Rattle.bus.proofs.state.Bus.list_refusal.Tie as tie
-use Rattle.bus.proofs.state.Bus.list_refusal.Reads as reads
-use Rattle.bus.proofs.state.Bus.list_refusal.Lts as lts
 
 pub list-refusal-spec : {M : Type 1} → statement M
 unfolding listRefusal firstOf

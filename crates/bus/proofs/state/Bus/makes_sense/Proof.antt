@@ -3,8 +3,6 @@ use borrow.Author.Needs.{needs}
 use Rattle.bus.proofs.SenseLaws.{sense-of-arrays}
 use Rattle.bus.proofs.state.Bus.makes_sense.Statement.{statement}
 use Rattle.bus.proofs.state.Bus.makes_sense.Tie as tie
-use Rattle.bus.proofs.state.Bus.makes_sense.Reads as reads
-use Rattle.bus.proofs.state.Bus.makes_sense.Lts as lts
 
 pub makes-sense-spec : {M : Type 1} → statement M
 makes-sense-spec =

@@ -3,8 +3,6 @@ use mathlib.Core.Path.{sym, _∙_}
 use borrow.Author.Needs.{needs}
 use Rattle.bus.proofs.state.Bus.request.Statement.{statement}
 use Rattle.bus.proofs.state.Bus.request.Tie as tie
-use Rattle.bus.proofs.state.Bus.request.Reads as reads
-use Rattle.bus.proofs.state.Bus.request.Lts as lts
 
 pub request-spec : {M : Type 1} → statement M
 request-spec =

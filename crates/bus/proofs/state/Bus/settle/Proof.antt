@@ -4,8 +4,6 @@ use borrow.Author.Needs.{needs}
 use Rattle.bus.proofs.SettleLaws.{list-refused, list-accepted}
 use Rattle.bus.proofs.state.Bus.settle.Statement.{statement}
 use Rattle.bus.proofs.state.Bus.settle.Tie as tie
-use Rattle.bus.proofs.state.Bus.settle.Reads as reads
-use Rattle.bus.proofs.state.Bus.settle.Lts as lts
 
 pub settle-spec : {M : Type 1} → statement M
 settle-spec =

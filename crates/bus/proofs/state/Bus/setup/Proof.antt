@@ -3,8 +3,6 @@ use mathlib.Core.Path.{sym, _∙_}
 use borrow.Author.Needs.{needs}
 use Rattle.bus.proofs.state.Bus.setup.Statement.{statement}
 use Rattle.bus.proofs.state.Bus.setup.Tie as tie
-use Rattle.bus.proofs.state.Bus.setup.Reads as reads
-use Rattle.bus.proofs.state.Bus.setup.Lts as lts
 
 pub setup-spec : {M : Type 1} → statement M
 setup-spec =

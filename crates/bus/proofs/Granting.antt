@@ -1,17 +1,17 @@
 -- The four lines on this state: what looks leave, four rounds, settled levels, and the grant.
-use Prim.Native.Nat.{ℕ, suc-le-suc, _<_, _≤_}
+use Prim.Native.Nat.{ℕ, _<_, _≤_}
 use mathlib.Core.Path.{_≡_, refl, sym, subst, ap, _∙_}
 use mathlib.Core.Logic.{_⊎_, inl, inr}
-use mathlib.Core.Bool.{Bool, true, false, cond, _&&_, true≢false}
+use mathlib.Core.Bool.{Bool, true, false, cond}
 use mathlib.Core.List.{List, [], _∷_, _++_, flatten}
 use native.Mathlib.Decide.{decLt}
 use native.Mathlib.Omega.{arith}
 use lib.Dec.{eqb}
-use lib.ListN.{length, getD, List·getD-eq-default}
-use borrow.Author.Tests.{eqb-true, eq-eqb, ne-eqb}
+use lib.ListN.{length, getD, set, List·getD-eq-default}
+use borrow.Author.Tests.{eq-eqb, ne-eqb}
 use Rattle.words.proofs.TestLaws.{true-or-false, all-three}
-use Rattle.lines.specs.Arbitration.{fourLines, Contender, Highest, settled, afterLook, afterLooks}
-use Rattle.lines.specs.Promises.{InRange, SettledAt}
+use Rattle.lines.specs.Arbitration.{fourLines, Contender, Highest, settled, looked, afterLook, afterLooks}
+use Rattle.lines.specs.Promises.{SettledAt}
 use Rattle.lines.proofs.HighestLaws.{highest-exists}
 use Rattle.lines.proofs.Settling.{settled-show-highest}
 use Rattle.lines.proofs.Unique.{settled-list-unique}
@@ -20,7 +20,6 @@ use Rattle.lines.proofs.FourLines.{four-rounds-settle, four-highest-unique}
 use Rattle.phases.specs.Phase as Phase
 use Rattle.bus.specs.Cards.{cardIn, someCard}
 use Rattle.bus.specs.State.{moved, silent, arbitrationOf, linesOf, isSettled}
-use Rattle.bus.specs.Sense.{makesSense}
 use Rattle.bus.specs.Steps.{lookedBy, afterLooksOf, mayAcknowledge, acknowledged}
 use Rattle.bus.specs.Promises.{Sensible, LooksDrive, LooksElsewhere, HighestThere, FourRounds, SettledOneWay, GrantsHighest, GrantsSettled}
 use Rattle.bus.specs.declared.state.Bus.{Bus}
@@ -29,9 +28,19 @@ use Rattle.bus.proofs.SenseLaws.{sense-means}
 
 -- ---- Looks
 
-looked-by : (bus : Bus) → bus .phase ≡ Phase.arbitration → (card : ℕ)
+-- in arbitration a look does what the lines have it do, also where the card doesn't contend and nothing changes
+pub looked-by : (bus : Bus) → bus .phase ≡ Phase.arbitration → (card : ℕ)
     → lookedBy bus card ≡ moved bus (bus .phase) (bus .contenders) (afterLook (arbitrationOf bus) (bus .driven) card) (bus .granted)
-looked-by bus a card = rw (eq-eqb _ _ a)
+unfolding afterLook
+looked-by bus a card = rw (eq-eqb _ _ a) (go (cardIn (bus .contenders) card))
+  where
+    new : List ℕ
+    new = set (bus .driven) card (looked (arbitrationOf bus) (bus .driven) card)
+
+    go : (b : Bool) → cond b (moved bus (bus .phase) (bus .contenders) new (bus .granted)) bus
+        ≡ moved bus (bus .phase) (bus .contenders) (cond b new (bus .driven)) (bus .granted)
+    go true = refl
+    go false = refl
 
 pub looks-drive : LooksDrive
 unfolding afterLooksOf afterLooks
