@@ -4,7 +4,7 @@ use Rattle.words.specs.Below.{allBelow, orBelow}
 use Rattle.words.specs.First.{firstOf, leastBelow}
 use Rattle.lines.specs.Look.{look}
 use Rattle.lines.specs.Arbitration.{everyContender, shown, looked, settled, afterLook}
-use Rattle.bus.specs.Cards.{someCard, isWithin}
+use Rattle.cards.specs.Cards.{someCard, isWithin}
 use Rattle.bus.specs.Sense.{pagesKnown, drivingFits, makesSense}
 use Rattle.bus.specs.Steps.{afterLooksOf}
 use Rattle.bus.specs.Settle.{settledAfter, leadingLooks, neverSettles, everyListed, settleRefusal, settleOf}

@@ -18,12 +18,12 @@ use Rattle.lines.proofs.Unique.{settled-list-unique}
 use Rattle.lines.proofs.NumberedCards.{by-number}
 use Rattle.lines.proofs.FourLines.{four-rounds-settle, four-highest-unique}
 use Rattle.phases.specs.Phase as Phase
-use Rattle.bus.specs.Cards.{cardIn, someCard}
+use Rattle.cards.specs.Cards.{cardIn, someCard}
 use Rattle.bus.specs.State.{moved, silent, arbitrationOf, linesOf, isSettled}
 use Rattle.bus.specs.Steps.{lookedBy, afterLooksOf, mayAcknowledge, acknowledged}
 use Rattle.bus.specs.Promises.{Sensible, LooksDrive, LooksElsewhere, HighestThere, FourRounds, SettledOneWay, GrantsHighest, GrantsSettled}
 use Rattle.bus.specs.declared.state.Bus.{Bus}
-use Rattle.bus.proofs.CardLaws.{card-below, some-at, some-of}
+use Rattle.cards.proofs.CardLaws.{card-below, some-at, some-of}
 use Rattle.bus.proofs.SenseLaws.{sense-means}
 
 -- ---- Looks

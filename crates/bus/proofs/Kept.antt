@@ -13,7 +13,7 @@ use Rattle.words.proofs.TestLaws.{true-or-false, all-three}
 use Rattle.lines.specs.Arbitration.{afterLook, looked}
 use Rattle.lines.proofs.LevelLaws.{length-look, after-look, looked-in-range, idle-look}
 use Rattle.phases.specs.Phase as Phase
-use Rattle.bus.specs.Cards.{cardIn, someCard, isWithin}
+use Rattle.cards.specs.Cards.{cardIn, someCard, isWithin}
 use Rattle.bus.specs.State.{nobody, silent, stateOf, moved, arbitrationOf, linesOf, isSettled}
 use Rattle.bus.specs.Setup.{freeBus}
 use Rattle.bus.specs.Steps.{mayRequest, mayLook, lookedBy, afterLooksOf, mayAcknowledge, mayHand, resetTo}
@@ -21,7 +21,7 @@ use Rattle.bus.specs.Settle.{leadingLooks, settleRefusal, refusedAs, set
 use Rattle.bus.specs.Method.{Method, request, look, acknowledge, beginTransferOne, takeBus, beginTransferTwo, giveBack, reset, settle, after}
 use Rattle.bus.specs.Promises.{Sensible, SenseKept, CardsAndPagesKept}
 use Rattle.bus.specs.declared.state.Bus.{Bus}
-use Rattle.bus.proofs.CardLaws.{card-below, none-in-empty, within-at, some-at}
+use Rattle.cards.proofs.CardLaws.{card-below, none-in-empty, within-at, some-at}
 use Rattle.bus.proofs.SenseLaws.{sense-means}
 use Rattle.bus.proofs.Granting.{looked-by, settled-highest}
 

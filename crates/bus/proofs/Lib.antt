@@ -1,9 +1,7 @@
 -- Laws that the functions' proofs cite, and the promises' proofs.
 pub mod AsComputed
 pub mod Granting
-pub mod CardLaws
 pub mod Kept
-pub mod Look
 pub mod LookRuns
 pub mod SenseLaws
 pub mod SettleLaws

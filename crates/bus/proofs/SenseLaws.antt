@@ -12,12 +12,12 @@ use borrow.Author.Tests.{leb-true, le-leb, lt-leb, eqb-true, eqb-false, eq-eqb, 
 use Rattle.words.proofs.TestLaws.{true-or-false, all-three, then-of, else-of, of-then, of-else}
 use Rattle.words.proofs.BelowLaws.{all-at, all-of}
 use Rattle.phases.specs.Phase as Phase
-use Rattle.bus.specs.Cards.{cardIn, someCard, isWithin}
+use Rattle.cards.specs.Cards.{cardIn, someCard, isWithin}
 use Rattle.bus.specs.State.{nobody}
 use Rattle.bus.specs.Sense.{hasSixteen, pagesKnown, contentionFits, drivingFits, grantFits, makesSense}
 use Rattle.bus.specs.Promises.{Sensible, SenseMeans}
 use Rattle.bus.specs.declared.state.Bus.{Bus}
-use Rattle.bus.proofs.CardLaws.{card-below, within-at, within-of, some-at, none-at, some-of, none-of}
+use Rattle.cards.proofs.CardLaws.{card-below, within-at, within-of, some-at, none-at, some-of, none-of}
 
 -- where the arrays have sixteen entries, the other tests decide
 pub sense-of-arrays : (bus : Bus) → length (bus .pages) ≡ 16 → length (bus .driven) ≡ 16

@@ -1,6 +1,5 @@
--- Read in this order: the answers; sets of cards; the state, its sense and setup; the steps; settle; all methods together; what is promised; runs.
+-- Read in this order: the answers; the state, its sense and setup; the steps; settle; all methods together; what is promised; runs.
 pub mod Refusal
-pub mod Cards
 pub mod State
 pub mod Sense
 pub mod Setup

@@ -10,7 +10,7 @@ use Rattle.words.specs.First.{appliesAs}
 use Rattle.lines.specs.Arbitration.{Highest, isRound, afterLooks}
 use Rattle.phases.specs.Phase as Phase
 use Rattle.bus.specs.Refusal as Refusal
-use Rattle.bus.specs.Cards.{cardIn}
+use Rattle.cards.specs.Cards.{cardIn}
 use Rattle.bus.specs.State.{nobody, silent, moved, arbitrationOf, linesOf, isSettled}
 use Rattle.bus.specs.Sense.{makesSense}
 use Rattle.bus.specs.Setup.{freeBus, emptyBus, setupOf}

@@ -6,7 +6,7 @@ use lib.Dec.{eqb, leb}
 use lib.ListN.{length, getD}
 use Rattle.words.specs.Below.{allBelow}
 use Rattle.phases.specs.Phase as Phase
-use Rattle.bus.specs.Cards.{cardIn, someCard, isWithin}
+use Rattle.cards.specs.Cards.{cardIn, someCard, isWithin}
 use Rattle.bus.specs.State.{nobody}
 use Rattle.bus.specs.declared.state.Bus.{Bus}
 

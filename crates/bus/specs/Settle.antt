@@ -8,7 +8,7 @@ use Rattle.words.specs.Below.{allBelow}
 use Rattle.words.specs.First.{Reason, reason, firstOf, leastBelow}
 use Rattle.phases.specs.Phase as Phase
 use Rattle.bus.specs.Refusal as Refusal
-use Rattle.bus.specs.Cards.{cardIn}
+use Rattle.cards.specs.Cards.{cardIn}
 use Rattle.bus.specs.State.{isSettled}
 use Rattle.bus.specs.Sense.{makesSense}
 use Rattle.bus.specs.Steps.{afterLooksOf}

@@ -4,7 +4,7 @@ use mathlib.Core.Bool.{Bool}
 use mathlib.Core.List.{List}
 use lib.ListN.{replicate}
 use Rattle.lines.specs.Arbitration.{Arbitration, fourLines, shown, settled}
-use Rattle.bus.specs.Cards.{cardIn}
+use Rattle.cards.specs.Cards.{cardIn}
 use Rattle.bus.specs.declared.state.Bus.{Bus}
 
 -- the granted card's place where nobody is granted

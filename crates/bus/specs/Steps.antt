@@ -7,7 +7,7 @@ use lib.Dec.{eqb}
 use lib.ListN.{set}
 use Rattle.lines.specs.Arbitration.{looked}
 use Rattle.phases.specs.Phase as Phase
-use Rattle.bus.specs.Cards.{cardIn, someCard, isWithin}
+use Rattle.cards.specs.Cards.{cardIn, someCard, isWithin}
 use Rattle.bus.specs.State.{moved, silent, nobody, arbitrationOf, linesOf, isSettled}
 use Rattle.bus.specs.declared.state.Bus.{Bus}
 

@@ -2,12 +2,12 @@
 ghost use mathlib.Core.Path.{_≡_};
 ghost use mathlib.Core.Bool.{cond};
 ghost use lib.Dec.{leb};
-ghost use Rattle.bus.specs.Cards.{cardIn};
+ghost use Rattle.cards.specs.Cards.{cardIn};
 ghost use Rattle.bus.specs.Refusal.{unsettled};
 ghost use Rattle.bus.specs.Settle.{everyListed, leadingLooks, listRefusal, neverSettles, refusedAs, settledBy, settleOf};
-use crate::cards::card_in;
 use crate::numbers::*;
 use crate::state::Bus;
+use cards::card_in;
 use phases::numbers::*;
 
 // What settle answers: the refusal, or 0 with the settled state and the number of looks taken.

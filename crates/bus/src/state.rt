@@ -2,11 +2,11 @@
 ghost use mathlib.Core.Path.{_≡_};
 ghost use Rattle.bus.specs.Sense.{pagesKnown, contentionFits, drivingFits, grantFits, makesSense};
 ghost use Rattle.bus.specs.Setup.{freeBus, setupOf};
-use crate::cards::card_in;
-use crate::cards::counted;
-use crate::cards::is_within;
-use crate::cards::some_card;
 use crate::numbers::*;
+use cards::card_in;
+use cards::counted;
+use cards::is_within;
+use cards::some_card;
 use phases::numbers::*;
 
 // It goes in and comes back by value.

@@ -16,12 +16,12 @@ ghost use Rattle.bus.specs.Steps.{
   givenBack,
   resetTo,
 };
-use crate::cards::card_in;
-use crate::cards::is_within;
-use crate::cards::some_card;
 use crate::numbers::*;
-use crate::priority::look_at;
 use crate::state::Bus;
+use cards::card_in;
+use cards::is_within;
+use cards::look_at;
+use cards::some_card;
 use phases::numbers::*;
 
 impl Bus {

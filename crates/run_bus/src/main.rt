@@ -7,6 +7,7 @@ fn main() {
     drivers_and_signals();
     kinds();
     printed_run();
+    refused_setup();
     four_nine_ten();
     settles();
     words();
@@ -132,6 +133,16 @@ fn printed_run() {
     let b = show_bus(made.bus);
     let b = arbitrate(b);
     hand_over_and_back(b);
+}
+
+// A code of 3 on page 15: the answer, and the bus that comes with it.
+fn refused_setup() {
+    title(b"setup with a page code of 3: answer, then fitted, phase, granted, lines, signals");
+    let made = Bus::setup(0x000A, [1, 2, 0, 0, 0, 0, 0, 0, 0, 0, 0, 0, 0, 0, 0, 3]);
+    put(made.answer);
+    end_line();
+    put_word(made.bus.fitted);
+    show_bus(made.bus);
 }
 
 // ---- The looks and settles that 01 marks for proof, M1 to M8

@@ -1,11 +1,12 @@
 -- The words at small numbers, computed.
 use mathlib.Core.Path.{_≡_, refl}
 use mathlib.Core.Bool.{true, false}
-use mathlib.Core.List.{[], _∷_}
+use mathlib.Core.List.{List, [], _∷_}
 use lib.Dec.{ltb}
 use Rattle.words.specs.Bits.{bitAt}
 use Rattle.words.specs.Below.{allBelow, orBelow}
 use Rattle.words.specs.Among.{isAmong}
+use Rattle.words.specs.First.{Reason, reason, firstOf, appliesAs, ascendsFrom, leastBelow}
 
 -- 10 has its ones at the places 3 and 1
 pub ones-of-ten : (bitAt 10 3 ≡ true) × (bitAt 10 2 ≡ false) × (bitAt 10 1 ≡ true) × (bitAt 10 0 ≡ false)
@@ -25,3 +26,22 @@ or-of-few = (refl, refl, refl)
 pub nine-among : (isAmong 9 (4 ∷ 9 ∷ 10 ∷ []) ≡ true) × (isAmong 3 (4 ∷ 9 ∷ 10 ∷ []) ≡ false) × (isAmong 11 (4 ∷ 9 ∷ 10 ∷ []) ≡ false)
 unfolding isAmong
 nine-among = (refl, refl, refl)
+
+abbrev twoFiveSix : List Reason
+twoFiveSix = reason 2 false ∷ reason 5 true ∷ reason 6 true ∷ []
+
+-- of reasons 2, 5 and 6 the first that applies is given, and 0 where none does
+pub five-first : (firstOf twoFiveSix ≡ 5) × (firstOf (reason 2 false ∷ []) ≡ 0)
+unfolding firstOf
+five-first = (refl, refl)
+
+-- 5 applies among them and 2 does not; they ascend, and 6 before 5 would not
+pub five-applies : (appliesAs 5 twoFiveSix ≡ true) × (appliesAs 2 twoFiveSix ≡ false) × (ascendsFrom 0 twoFiveSix ≡ true)
+    × (ascendsFrom 0 (reason 6 true ∷ reason 5 true ∷ []) ≡ false)
+unfolding appliesAs ascendsFrom
+five-applies = (refl, refl, refl, refl)
+
+-- the least number below 5 that is above 2, and the bound where none is above 9
+pub three-least : (leastBelow (λ k. ltb 2 k) 5 ≡ 3) × (leastBelow (λ k. ltb 9 k) 5 ≡ 5)
+unfolding leastBelow
+three-least = (refl, refl)

@@ -6,7 +6,7 @@ use borrow.Author.Needs.{needs}
 use lib.ListN.{length, getD}
 use Rattle.words.specs.Below.{allBelow}
 use Rattle.words.proofs.BelowLaws.{all-start, all-next, at-bound}
-use Rattle.bus.specs.Cards.{cardIn}
+use Rattle.cards.specs.Cards.{cardIn}
 use Rattle.bus.specs.Settle.{everyListed}
 use Rattle.bus.proofs.settle.all_in.Statement.{statement}
 use Rattle.bus.proofs.settle.all_in.Tie as tie

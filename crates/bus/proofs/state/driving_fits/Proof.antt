@@ -8,7 +8,7 @@ use lib.Dec.{leb}
 use lib.ListN.{getD}
 use Rattle.words.specs.Below.{allBelow}
 use Rattle.words.proofs.BelowLaws.{all-start, all-next, at-bound}
-use Rattle.bus.specs.Cards.{cardIn}
+use Rattle.cards.specs.Cards.{cardIn}
 use Rattle.bus.specs.Sense.{drivingFits}
 use Rattle.bus.proofs.state.driving_fits.Statement.{statement}
 use Rattle.bus.proofs.state.driving_fits.Tie as tie

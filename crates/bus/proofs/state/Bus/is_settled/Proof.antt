@@ -10,7 +10,7 @@ use Rattle.words.specs.Below.{allBelow}
 use Rattle.words.proofs.BelowLaws.{all-start, all-next, at-bound}
 use Rattle.lines.specs.Look.{look}
 use Rattle.lines.specs.Arbitration.{settled, everyContender, looked}
-use Rattle.bus.specs.Cards.{cardIn}
+use Rattle.cards.specs.Cards.{cardIn}
 use Rattle.bus.specs.State.{linesOf}
 use Rattle.bus.proofs.state.Bus.is_settled.Statement.{statement}
 use Rattle.bus.proofs.state.Bus.is_settled.Tie as tie

@@ -8,7 +8,7 @@ use lib.ListN.{getD}
 use Rattle.words.specs.Below.{orBelow}
 use Rattle.words.proofs.BelowLaws.{or-start, or-next, at-bound}
 use Rattle.lines.specs.Arbitration.{shown}
-use Rattle.bus.specs.Cards.{cardIn}
+use Rattle.cards.specs.Cards.{cardIn}
 use Rattle.bus.proofs.state.Bus.lines.Statement.{statement}
 use Rattle.bus.proofs.state.Bus.lines.Tie as tie
 

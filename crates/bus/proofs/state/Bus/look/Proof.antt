@@ -2,7 +2,7 @@
 use mathlib.Core.Path.{sym, _∙_}
 use borrow.Author.Needs.{needs}
 use Rattle.lines.specs.Arbitration.{looked}
-use Rattle.bus.proofs.Look.{looks-below}
+use Rattle.bus.proofs.LookRuns.{looks-below}
 use Rattle.bus.proofs.state.Bus.look.Statement.{statement}
 use Rattle.bus.proofs.state.Bus.look.Tie as tie
 

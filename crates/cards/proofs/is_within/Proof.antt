@@ -1,7 +1,7 @@
 -- By the law on sets of sixteen cards.
-use Rattle.bus.proofs.CardLaws.{is-within}
-use Rattle.bus.proofs.cards.is_within.Statement.{statement}
-use Rattle.bus.proofs.cards.is_within.Tie as tie
+use Rattle.cards.proofs.CardLaws.{is-within}
+use Rattle.cards.proofs.is_within.Statement.{statement}
+use Rattle.cards.proofs.is_within.Tie as tie
 
 pub is-within-spec : {M : Type 1} → statement M
 is-within-spec =

@@ -3,9 +3,9 @@ use Prim.Native.Nat.{_≤_, _+_, _^_}
 use mathlib.Core.Path.{_≡_}
 use native.Mathlib.Omega.{arith}
 use Rattle.lines.specs.Look.{look}
-use Rattle.bus.proofs.Look.{place-weight, look-drives, look-stops, look-passes, look-ends}
-use Rattle.bus.proofs.priority.look_at.Statement.{statement}
-use Rattle.bus.proofs.priority.look_at.Tie as tie
+use Rattle.cards.proofs.PlaceLaws.{place-weight, look-drives, look-stops, look-passes, look-ends}
+use Rattle.cards.proofs.look_at.Statement.{statement}
+use Rattle.cards.proofs.look_at.Tie as tie
 
 abbrev Inv-loop : tie.InvT-loop
 Inv-loop number lines place₀ driven₀ place driven =

@@ -1,8 +1,8 @@
 -- By whether the number is a card's.
 use borrow.Author.Needs.{needs}
 use borrow.Author.Tests.{lt-ltb, le-ltb}
-use Rattle.bus.proofs.cards.card_in.Statement.{statement}
-use Rattle.bus.proofs.cards.card_in.Tie as tie
+use Rattle.cards.proofs.card_in.Statement.{statement}
+use Rattle.cards.proofs.card_in.Tie as tie
 
 pub card-in-spec : {M : Type 1} → statement M
 card-in-spec =

@@ -1,17 +1,11 @@
 -- A look, one place down: what the card does at the highest of the p places that are left.
 use Prim.Native.Nat.{ℕ, suc, _+_, _-_, _*_, _^_, _/_, _%_, _<_, _≤_}
 use mathlib.Core.Path.{_≡_, _∙_, ap}
-use mathlib.Core.Bool.{true, cond, and-eq-true-iff}
+use mathlib.Core.Bool.{cond}
 use native.Mathlib.Omega.{arith}
-use lib.Dec.{eqb}
 use borrow.Author.Tests.{eq-eqb, ne-eqb}
 use Rattle.words.specs.Bits.{bitAt}
 use Rattle.lines.specs.Look.{look}
-use Rattle.phases.specs.Phase as Phase
-use Rattle.bus.specs.Cards.{cardIn}
-use Rattle.bus.specs.Steps.{mayLook}
-use Rattle.bus.specs.declared.state.Bus.{Bus}
-use Rattle.bus.proofs.CardLaws.{card-below}
 
 module _ (p n l : ℕ) (some : 0 < p) where
   pub place-weight : 2 ^ p ≡ 2 * 2 ^ (p - 1)
@@ -37,8 +31,3 @@ module _ (p n l : ℕ) (some : 0 < p) where
 pub look-ends : (p n l : ℕ) → p ≤ 0 → look p n l ≡ 0
 unfolding look
 look-ends p n l none = let e : p ≡ 0 = omega arith in ap (λ (x : ℕ). look x n l) e
-
--- whoever may look is one of the sixteen cards
-pub looks-below : (bus : Bus) (card : ℕ) → mayLook bus card ≡ true → card < 16
-looks-below bus card may =
-    card-below (bus .contenders) card (and-eq-true-iff (eqb (bus .phase) Phase.arbitration) (cardIn (bus .contenders) card) .0 may .1)

@@ -1,8 +1,8 @@
 -- By whether the card is in the set.
 use mathlib.Core.Path.{sym, _∙_}
 use borrow.Author.Needs.{needs}
-use Rattle.bus.proofs.cards.counted.Statement.{statement}
-use Rattle.bus.proofs.cards.counted.Tie as tie
+use Rattle.cards.proofs.counted.Statement.{statement}
+use Rattle.cards.proofs.counted.Tie as tie
 
 pub counted-spec : {M : Type 1} → statement M
 counted-spec =

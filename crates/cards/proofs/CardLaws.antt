@@ -12,7 +12,7 @@ use Rattle.words.specs.Below.{allBelow}
 use Rattle.words.proofs.TestLaws.{true-or-false, tests-same, then-of, of-then}
 use Rattle.words.proofs.BitLaws.{bits-same, bit-above, bit-or}
 use Rattle.words.proofs.BelowLaws.{all-at, all-of, some-not}
-use Rattle.bus.specs.Cards.{cardIn, someCard, isWithin}
+use Rattle.cards.specs.Cards.{cardIn, someCard, isWithin}
 
 adds-nothing : (a b : Bool) → (a || b) ≡ b → (not a || b) ≡ true
 adds-nothing true b e = sym e
