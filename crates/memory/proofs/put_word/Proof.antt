@@ -11,6 +11,6 @@ put-word-spec =
     (λ c κs. search needs)
     (λ c κs. search needs)
     (λ c. search needs)
-    (λ c. (cc, cc))
+    (λ c. rw (c .before .before .before .before .if1 .taken) (c .before .before .put-both .ensures))
     (λ c. search needs)
-    (λ c. (cc, cc)))
+    (λ c. rw (c .before .before .before .before .if1 .left) (c .before .before .put-each .ensures)))

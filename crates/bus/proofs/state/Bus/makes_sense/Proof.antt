@@ -12,4 +12,11 @@ makes-sense-spec =
     (λ c κs. search needs)
     (λ c κs. search needs)
     (λ c κs. search needs)
-    (λ c. cc (sense-of-arrays (c .before .before .before .before .before .before .before .args .self) (search needs) (search needs))))
+    (λ c.
+    rw (
+      c .before .before .before .before .pages-known .ensures,
+      c .before .before .contention-fits .ensures,
+      c .before .driving-fits .ensures,
+      c .grant-fits .ensures,
+    )
+    (sense-of-arrays (c .before .before .before .before .before .before .before .args .self) (search needs) (search needs))))
