@@ -14,8 +14,7 @@ use Rattle.lines.specs.Arbitration.{afterLook, looked}
 use Rattle.lines.proofs.LevelLaws.{length-look, after-look, looked-in-range, idle-look}
 use Rattle.phases.specs.Phase as Phase
 use Rattle.cards.specs.Cards.{cardIn, someCard, isWithin}
-use Rattle.bus.specs.State.{nobody, silent, stateOf, moved, arbitrationOf, linesOf, isSettled}
-use Rattle.bus.specs.Setup.{freeBus}
+use Rattle.bus.specs.State.{freeBus, nobody, silent, stateOf, moved, arbitrationOf, linesOf, isSettled}
 use Rattle.bus.specs.Steps.{mayRequest, mayLook, lookedBy, afterLooksOf, mayAcknowledge, mayHand, resetTo}
 use Rattle.bus.specs.Settle.{leadingLooks, settleRefusal, refusedAs, settledBy, settleOf}
 use Rattle.bus.specs.Method.{Method, request, look, acknowledge, beginTransferOne, takeBus, beginTransferTwo, giveBack, reset, settle, after}

@@ -15,7 +15,8 @@ use Rattle.words.proofs.BelowLaws.{all-at, all-of}
 use Rattle.phases.specs.Phase as Phase
 use Rattle.phases.specs.Signal.{signalsIn}
 use Rattle.bus.specs.Sense.{pagesKnown, makesSense}
-use Rattle.bus.specs.Setup.{freeBus, emptyBus, setupOf}
+use Rattle.bus.specs.State.{freeBus}
+use Rattle.bus.specs.Setup.{emptyBus, setupOf}
 use Rattle.bus.specs.Promises.{SetupRefuses, SetupAccepts, SetupMakesSense, HoldFalseIsNotFree}
 use Rattle.bus.proofs.SenseLaws.{sense-means}
 use Rattle.bus.proofs.Kept.{free-sense}

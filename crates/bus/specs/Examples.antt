@@ -8,9 +8,9 @@ use lib.ListN.{getD, replicate, take}
 use Rattle.phases.specs.Phase as Phase
 use Rattle.phases.specs.Signal.{signalsIn}
 use Rattle.bus.specs.Refusal as Refusal
-use Rattle.bus.specs.State.{nobody, silent, stateOf, linesOf, isSettled}
+use Rattle.bus.specs.State.{freeBus, nobody, silent, stateOf, linesOf, isSettled}
 use Rattle.bus.specs.Sense.{makesSense}
-use Rattle.bus.specs.Setup.{freeBus, setupOf}
+use Rattle.bus.specs.Setup.{setupOf}
 use Rattle.bus.specs.Steps.{requested, lookedBy, afterLooksOf, acknowledged}
 use Rattle.bus.specs.Settle.{settleOf}
 use Rattle.bus.specs.Method.{Method, request, look, acknowledge, beginTransferOne, takeBus, beginTransferTwo, giveBack, reset, after}

@@ -11,9 +11,9 @@ use Rattle.lines.specs.Arbitration.{Highest, isRound, afterLooks}
 use Rattle.phases.specs.Phase as Phase
 use Rattle.bus.specs.Refusal as Refusal
 use Rattle.cards.specs.Cards.{cardIn}
-use Rattle.bus.specs.State.{nobody, silent, moved, arbitrationOf, linesOf, isSettled}
+use Rattle.bus.specs.State.{freeBus, nobody, silent, moved, arbitrationOf, linesOf, isSettled}
 use Rattle.bus.specs.Sense.{makesSense}
-use Rattle.bus.specs.Setup.{freeBus, emptyBus, setupOf}
+use Rattle.bus.specs.Setup.{emptyBus, setupOf}
 use Rattle.bus.specs.Steps.{requested, afterLooksOf, acknowledged}
 use Rattle.phases.specs.Signal.{signalsIn}
 use Rattle.bus.specs.Settle.{settleReasons, listRefusal, settleOf}

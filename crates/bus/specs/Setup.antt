@@ -3,16 +3,11 @@ use Prim.Native.Nat.{ℕ}
 use mathlib.Core.Bool.{cond}
 use mathlib.Core.List.{List}
 use lib.ListN.{replicate}
-use Rattle.phases.specs.Phase as Phase
 use Rattle.bus.specs.Refusal as Refusal
-use Rattle.bus.specs.State.{stateOf, silent, nobody}
+use Rattle.bus.specs.State.{freeBus}
 use Rattle.bus.specs.Sense.{pagesKnown}
 use Rattle.bus.specs.declared.state.Bus.{Bus}
 use Rattle.bus.specs.declared.state.Made.{Made}
-
--- free, with these cards and pages
-abbrev pub freeBus : ℕ → List ℕ → Bus
-freeBus fitted pages = stateOf fitted pages Phase.free 0 silent nobody
 
 -- no cards, all pages absent
 abbrev pub emptyBus : Bus

@@ -1,10 +1,11 @@
--- The state of the bus, and the one place where a state is built (01, "State and phases").
+-- The state of the bus, how a state is built, and the arbitration in it (01, "State and phases").
 use Prim.Native.Nat.{ℕ}
 use mathlib.Core.Bool.{Bool}
 use mathlib.Core.List.{List}
 use lib.ListN.{replicate}
 use Rattle.lines.specs.Arbitration.{Arbitration, fourLines, shown, settled}
 use Rattle.cards.specs.Cards.{cardIn}
+use Rattle.phases.specs.Phase as Phase
 use Rattle.bus.specs.declared.state.Bus.{Bus}
 
 -- the granted card's place where nobody is granted
@@ -15,20 +16,35 @@ nobody = 0xFF
 abbrev pub silent : List ℕ
 silent = replicate 16 0
 
--- a state, part by part
-abbrev pub stateOf : ℕ → List ℕ → ℕ → ℕ → List ℕ → ℕ → Bus
-stateOf fitted pages phase contenders driven granted = record {
+-- ---- The two places where a state is built. A new field gets its first value in freeBus, and is kept in moved.
+
+-- free, with these cards and pages
+abbrev pub freeBus : ℕ → List ℕ → Bus
+freeBus fitted pages = record {
   fitted = fitted;
   pages = pages;
+  phase = Phase.free;
+  contenders = 0;
+  driven = silent;
+  granted = nobody;
+}
+
+-- as it was, with all that the methods change given anew
+abbrev pub moved : Bus → ℕ → ℕ → List ℕ → ℕ → Bus
+moved bus phase contenders driven granted = record {
+  fitted = bus .fitted;
+  pages = bus .pages;
   phase = phase;
   contenders = contenders;
   driven = driven;
   granted = granted;
 }
 
--- the same cards and pages, with all that the methods may change given anew
-abbrev pub moved : Bus → ℕ → ℕ → List ℕ → ℕ → Bus
-moved bus phase contenders driven granted = stateOf (bus .fitted) (bus .pages) phase contenders driven granted
+-- a state, part by part
+abbrev pub stateOf : ℕ → List ℕ → ℕ → ℕ → List ℕ → ℕ → Bus
+stateOf fitted pages phase contenders driven granted = moved (freeBus fitted pages) phase contenders driven granted
+
+-- ---- The lines
 
 -- the arbitration that the state is in
 abbrev pub arbitrationOf : Bus → Arbitration

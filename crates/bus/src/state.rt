@@ -1,7 +1,8 @@
 // The state of the bus, whether it makes sense, and setup.
 ghost use mathlib.Core.Path.{_≡_};
 ghost use Rattle.bus.specs.Sense.{pagesKnown, contentionFits, drivingFits, grantFits, makesSense};
-ghost use Rattle.bus.specs.Setup.{freeBus, setupOf};
+ghost use Rattle.bus.specs.State.{freeBus};
+ghost use Rattle.bus.specs.Setup.{setupOf};
 use crate::numbers::*;
 use cards::card_in;
 use cards::counted;
