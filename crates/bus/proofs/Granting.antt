@@ -19,7 +19,7 @@ use Rattle.lines.proofs.NumberedCards.{by-number}
 use Rattle.lines.proofs.FourLines.{four-rounds-settle, four-highest-unique}
 use Rattle.phases.specs.Phase as Phase
 use Rattle.cards.specs.Cards.{cardIn, someCard}
-use Rattle.bus.specs.State.{moved, silent, arbitrationOf, linesOf, isSettled}
+use Rattle.bus.specs.State.{changed, silent, arbitrationOf, linesOf, isSettled}
 use Rattle.bus.specs.Steps.{lookedBy, afterLooksOf, mayAcknowledge, acknowledged}
 use Rattle.bus.specs.Promises.{Sensible, LooksDrive, LooksElsewhere, HighestThere, FourRounds, SettledOneWay, GrantsHighest, GrantsSettled}
 use Rattle.bus.specs.declared.state.Bus.{Bus}
@@ -30,15 +30,15 @@ use Rattle.bus.proofs.SenseLaws.{sense-means}
 
 -- in arbitration a look does what the lines have it do, also where the card doesn't contend and nothing changes
 pub looked-by : (bus : Bus) → bus .phase ≡ Phase.arbitration → (card : ℕ)
-    → lookedBy bus card ≡ moved bus (bus .phase) (bus .contenders) (afterLook (arbitrationOf bus) (bus .driven) card) (bus .granted)
+    → lookedBy bus card ≡ changed bus (bus .phase) (bus .contenders) (afterLook (arbitrationOf bus) (bus .driven) card) (bus .granted)
 unfolding afterLook
 looked-by bus a card = rw (eq-eqb _ _ a) (go (cardIn (bus .contenders) card))
   where
     new : List ℕ
     new = set (bus .driven) card (looked (arbitrationOf bus) (bus .driven) card)
 
-    go : (b : Bool) → cond b (moved bus (bus .phase) (bus .contenders) new (bus .granted)) bus
-        ≡ moved bus (bus .phase) (bus .contenders) (cond b new (bus .driven)) (bus .granted)
+    go : (b : Bool) → cond b (changed bus (bus .phase) (bus .contenders) new (bus .granted)) bus
+        ≡ changed bus (bus .phase) (bus .contenders) (cond b new (bus .driven)) (bus .granted)
     go true = refl
     go false = refl
 
@@ -47,7 +47,7 @@ unfolding afterLooksOf afterLooks
 looks-drive bus a [] = refl
 looks-drive bus a (card ∷ cards) =
     ap (λ (b : Bus). afterLooksOf b cards) (looked-by bus a card)
-    ∙ looks-drive (moved bus (bus .phase) (bus .contenders) (afterLook (arbitrationOf bus) (bus .driven) card) (bus .granted)) a cards
+    ∙ looks-drive (changed bus (bus .phase) (bus .contenders) (afterLook (arbitrationOf bus) (bus .driven) card) (bus .granted)) a cards
 
 pub looks-elsewhere : LooksElsewhere
 unfolding afterLooksOf
@@ -94,21 +94,21 @@ settled-highest bus some still =
     (sym (settled-show-highest (arbitrationOf bus) (by-number 4 (λ q. cardIn (bus .contenders) q) .0) (best .0) (best .1) (bus .driven) still))
     (best .1)
 
-acknowledge-taken : (bus : Bus) → mayAcknowledge bus ≡ true → acknowledged bus ≡ moved bus Phase.granted 0 silent (linesOf bus)
+acknowledge-taken : (bus : Bus) → mayAcknowledge bus ≡ true → acknowledged bus ≡ changed bus Phase.granted 0 silent (linesOf bus)
 acknowledge-taken bus may = rw may
 
 acknowledge-left : (bus : Bus) → mayAcknowledge bus ≡ false → acknowledged bus ≡ bus
 acknowledge-left bus may = rw may
 
 pub grants-highest : GrantsHighest
-grants-highest bus changed = go (true-or-false (mayAcknowledge bus))
+grants-highest bus steps = go (true-or-false (mayAcknowledge bus))
   where
     go : (mayAcknowledge bus ≡ true) ⊎ (mayAcknowledge bus ≡ false)
-        → Highest (arbitrationOf bus) (acknowledged bus .granted) × (acknowledged bus ≡ moved bus Phase.granted 0 silent (acknowledged bus .granted))
+        → Highest (arbitrationOf bus) (acknowledged bus .granted) × (acknowledged bus ≡ changed bus Phase.granted 0 silent (acknowledged bus .granted))
     go (inl may) =
         let parts = all-three (eqb (bus .phase) Phase.arbitration) (someCard (bus .contenders)) (isSettled bus) may in
         rw (acknowledge-taken bus may) (settled-highest bus (parts .1 .0) (parts .1 .1), refl)
-    go (inr may) = absurd (changed (ap (λ (b : Bus). b .phase) (acknowledge-left bus may)))
+    go (inr may) = absurd (steps (ap (λ (b : Bus). b .phase) (acknowledge-left bus may)))
 
 pub grants-settled : GrantsSettled
 grants-settled bus e a =

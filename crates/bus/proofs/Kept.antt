@@ -14,9 +14,9 @@ use Rattle.lines.specs.Arbitration.{afterLook, looked}
 use Rattle.lines.proofs.LevelLaws.{length-look, after-look, looked-in-range, idle-look}
 use Rattle.phases.specs.Phase as Phase
 use Rattle.cards.specs.Cards.{cardIn, someCard, isWithin}
-use Rattle.bus.specs.State.{freeBus, nobody, silent, stateOf, moved, arbitrationOf, linesOf, isSettled}
-use Rattle.bus.specs.Steps.{mayRequest, mayLook, lookedBy, afterLooksOf, mayAcknowledge, mayHand, resetTo}
-use Rattle.bus.specs.Settle.{leadingLooks, settleRefusal, refusedAs, settledBy, settleOf}
+use Rattle.bus.specs.State.{freeBus, nobody, silent, stateOf, changed, arbitrationOf, linesOf, isSettled}
+use Rattle.bus.specs.Steps.{mayRequest, mayLook, lookedBy, afterLooksOf, mayAcknowledge, mayTransfer, resetTo}
+use Rattle.bus.specs.Settle.{leadingLooks, settleRefusal, refusedAs, acceptedAfter, settleOf}
 use Rattle.bus.specs.Method.{Method, request, look, acknowledge, beginTransferOne, takeBus, beginTransferTwo, giveBack, reset, settle, after}
 use Rattle.bus.specs.Promises.{Sensible, SenseKept, CardsAndPagesKept}
 use Rattle.bus.specs.declared.state.Bus.{Bus}
@@ -51,7 +51,7 @@ free-sense fitted pages size codes = at-rest fitted pages size codes silent refl
 reset-sense : (bus : Bus) → Sensible bus → Sensible (resetTo bus)
 reset-sense bus s = free-sense (bus .fitted) (bus .pages) (s .sixteenPages) (s .codes)
 
-request-sense : (bus : Bus) (cards : ℕ) → Sensible bus → mayRequest bus cards ≡ true → Sensible (moved bus Phase.arbitration cards silent (bus .granted))
+request-sense : (bus : Bus) (cards : ℕ) → Sensible bus → mayRequest bus cards ≡ true → Sensible (changed bus Phase.arbitration cards silent (bus .granted))
 request-sense bus cards s may = record {
   sixteenPages = s .sixteenPages;
   sixteenLevels = refl;
@@ -71,7 +71,7 @@ request-sense bus cards s may = record {
 
 -- a look changes one level, to what four lines can show
 levels-sense : (bus : Bus) (card : ℕ) → Sensible bus
-    → Sensible (moved bus (bus .phase) (bus .contenders) (afterLook (arbitrationOf bus) (bus .driven) card) (bus .granted))
+    → Sensible (changed bus (bus .phase) (bus .contenders) (afterLook (arbitrationOf bus) (bus .driven) card) (bus .granted))
 levels-sense bus card s = record {
   sixteenPages = s .sixteenPages;
   sixteenLevels = length-look (arbitrationOf bus) (bus .driven) card ∙ s .sixteenLevels;
@@ -88,7 +88,7 @@ levels-sense bus card s = record {
   nobodyElsewhere = s .nobodyElsewhere;
 }
 
-acknowledge-sense : (bus : Bus) → Sensible bus → mayAcknowledge bus ≡ true → Sensible (moved bus Phase.granted 0 silent (linesOf bus))
+acknowledge-sense : (bus : Bus) → Sensible bus → mayAcknowledge bus ≡ true → Sensible (changed bus Phase.granted 0 silent (linesOf bus))
 acknowledge-sense bus s may = record {
   sixteenPages = s .sixteenPages;
   sixteenLevels = refl;
@@ -107,9 +107,9 @@ acknowledge-sense bus s may = record {
     each = all-three (eqb (bus .phase) Phase.arbitration) (someCard (bus .contenders)) (isSettled bus) may
 
 -- from one phase in which a card is granted to another
-hand-sense : (bus : Bus) (from to card : ℕ) → Phase.granted ≤ from → Phase.granted ≤ to → to ≤ Phase.transferTwo → Sensible bus → mayHand bus from card ≡ true
-    → Sensible (moved bus to (bus .contenders) (bus .driven) (bus .granted))
-hand-sense bus from to card later on last s may = record {
+transfer-sense : (bus : Bus) (from to card : ℕ) → Phase.granted ≤ from → Phase.granted ≤ to → to ≤ Phase.transferTwo → Sensible bus → mayTransfer bus from card ≡ true
+    → Sensible (changed bus to (bus .contenders) (bus .driven) (bus .granted))
+transfer-sense bus from to card later on last s may = record {
   sixteenPages = s .sixteenPages;
   sixteenLevels = s .sixteenLevels;
   codes = s .codes;
@@ -126,8 +126,8 @@ hand-sense bus from to card later on last s may = record {
     here : bus .phase ≡ from
     here = eqb-true _ _ (and-eq-true-iff (eqb (bus .phase) from) (eqb (bus .granted) card) .0 may .0)
 
-give-back-sense : (bus : Bus) (card : ℕ) → Sensible bus → mayHand bus Phase.transferTwo card ≡ true
-    → Sensible (moved bus Phase.free (bus .contenders) (bus .driven) nobody)
+give-back-sense : (bus : Bus) (card : ℕ) → Sensible bus → mayTransfer bus Phase.transferTwo card ≡ true
+    → Sensible (changed bus Phase.free (bus .contenders) (bus .driven) nobody)
 give-back-sense bus card s may =
     at-rest (bus .fitted) (bus .pages) (s .sixteenPages) (s .codes) (bus .driven) (s .sixteenLevels) (λ n h. s .idleDrives n h (none n)) (bus .contenders) none
   where
@@ -164,16 +164,16 @@ keeps-sense (request cards) bus s = either-sense (mayRequest bus cards) (request
 keeps-sense (look card) bus s = look-sense bus card s
 keeps-sense acknowledge bus s = either-sense (mayAcknowledge bus) (acknowledge-sense bus s) s
 keeps-sense (beginTransferOne card) bus s =
-    either-sense (mayHand bus Phase.granted card) (hand-sense bus Phase.granted Phase.transferOne card (lit≤ tt) (lit≤ tt) (lit≤ tt) s) s
+    either-sense (mayTransfer bus Phase.granted card) (transfer-sense bus Phase.granted Phase.transferOne card (lit≤ tt) (lit≤ tt) (lit≤ tt) s) s
 keeps-sense (takeBus card) bus s =
-    either-sense (mayHand bus Phase.transferOne card) (hand-sense bus Phase.transferOne Phase.owned card (lit≤ tt) (lit≤ tt) (lit≤ tt) s) s
+    either-sense (mayTransfer bus Phase.transferOne card) (transfer-sense bus Phase.transferOne Phase.owned card (lit≤ tt) (lit≤ tt) (lit≤ tt) s) s
 keeps-sense (beginTransferTwo card) bus s =
-    either-sense (mayHand bus Phase.owned card) (hand-sense bus Phase.owned Phase.transferTwo card (lit≤ tt) (lit≤ tt) (lit≤ tt) s) s
-keeps-sense (giveBack card) bus s = either-sense (mayHand bus Phase.transferTwo card) (give-back-sense bus card s) s
+    either-sense (mayTransfer bus Phase.owned card) (transfer-sense bus Phase.owned Phase.transferTwo card (lit≤ tt) (lit≤ tt) (lit≤ tt) s) s
+keeps-sense (giveBack card) bus s = either-sense (mayTransfer bus Phase.transferTwo card) (give-back-sense bus card s) s
 keeps-sense reset bus s = reset-sense bus s
 keeps-sense (settle cards) bus s = go (eqb (settleRefusal bus cards) 0)
   where
-    go : (b : Bool) → Sensible (cond b (settledBy (leadingLooks bus cards) bus cards) (refusedAs (settleRefusal bus cards) bus) .bus)
+    go : (b : Bool) → Sensible (cond b (acceptedAfter (leadingLooks bus cards) bus cards) (refusedAs (settleRefusal bus cards) bus) .bus)
     go true = looks-sense (take (leadingLooks bus cards) cards) bus s
     go false = s
 
@@ -185,7 +185,7 @@ sense-kept method bus e = sense-means (after method bus) .1 (keeps-sense method 
 Kept : Bus → Bus → Type 0
 Kept bus result = (result .fitted ≡ bus .fitted) × (result .pages ≡ bus .pages)
 
-either-kept : (bus : Bus) (b : Bool) (phase contenders : ℕ) (driven : List ℕ) (granted : ℕ) → Kept bus (cond b (moved bus phase contenders driven granted) bus)
+either-kept : (bus : Bus) (b : Bool) (phase contenders : ℕ) (driven : List ℕ) (granted : ℕ) → Kept bus (cond b (changed bus phase contenders driven granted) bus)
 unfolding Kept
 either-kept bus true phase contenders driven granted = (refl, refl)
 either-kept bus false phase contenders driven granted = (refl, refl)
@@ -203,13 +203,13 @@ unfolding settleOf Kept
 cards-and-pages-kept (request cards) bus = either-kept bus (mayRequest bus cards) _ _ _ _
 cards-and-pages-kept (look card) bus = either-kept bus (mayLook bus card) _ _ _ _
 cards-and-pages-kept acknowledge bus = either-kept bus (mayAcknowledge bus) _ _ _ _
-cards-and-pages-kept (beginTransferOne card) bus = either-kept bus (mayHand bus Phase.granted card) _ _ _ _
-cards-and-pages-kept (takeBus card) bus = either-kept bus (mayHand bus Phase.transferOne card) _ _ _ _
-cards-and-pages-kept (beginTransferTwo card) bus = either-kept bus (mayHand bus Phase.owned card) _ _ _ _
-cards-and-pages-kept (giveBack card) bus = either-kept bus (mayHand bus Phase.transferTwo card) _ _ _ _
+cards-and-pages-kept (beginTransferOne card) bus = either-kept bus (mayTransfer bus Phase.granted card) _ _ _ _
+cards-and-pages-kept (takeBus card) bus = either-kept bus (mayTransfer bus Phase.transferOne card) _ _ _ _
+cards-and-pages-kept (beginTransferTwo card) bus = either-kept bus (mayTransfer bus Phase.owned card) _ _ _ _
+cards-and-pages-kept (giveBack card) bus = either-kept bus (mayTransfer bus Phase.transferTwo card) _ _ _ _
 cards-and-pages-kept reset bus = (refl, refl)
 cards-and-pages-kept (settle cards) bus = go (eqb (settleRefusal bus cards) 0)
   where
-    go : (b : Bool) → Kept bus (cond b (settledBy (leadingLooks bus cards) bus cards) (refusedAs (settleRefusal bus cards) bus) .bus)
+    go : (b : Bool) → Kept bus (cond b (acceptedAfter (leadingLooks bus cards) bus cards) (refusedAs (settleRefusal bus cards) bus) .bus)
     go true = looks-kept (take (leadingLooks bus cards) cards) bus
     go false = (refl, refl)

@@ -15,7 +15,7 @@ use Rattle.words.proofs.FirstLaws.{numbered, first-append, least-is}
 use Rattle.bus.specs.Refusal as Refusal
 use Rattle.bus.specs.State.{isSettled}
 use Rattle.bus.specs.Steps.{afterLooksOf}
-use Rattle.bus.specs.Settle.{settledAfter, leadingLooks, neverSettles, listReasons, listRefusal, settleRefusal, refusedAs, settledBy, settleOf}
+use Rattle.bus.specs.Settle.{settledAfter, leadingLooks, neverSettles, listReasons, listRefusal, settleRefusal, refusedAs, acceptedAfter, settleOf}
 use Rattle.bus.specs.declared.state.Bus.{Bus}
 use Rattle.bus.specs.declared.settle.Settlement.{Settlement}
 
@@ -26,7 +26,7 @@ module _ (bus : Bus) (cards : List ℕ) where
 
   -- what the looks answer, where nothing is wrong with the list
   abbrev pub looksAnswer : Settlement
-  looksAnswer = cond (neverSettles bus cards) (refusedAs Refusal.unsettled bus) (settledBy (leadingLooks bus cards) bus cards)
+  looksAnswer = cond (neverSettles bus cards) (refusedAs Refusal.unsettled bus) (acceptedAfter (leadingLooks bus cards) bus cards)
 
   pub settled-after : (n : ℕ) {reached : Bus} → reached ≡ afterLooksOf bus (take n cards) → settledAfter bus cards n ≡ isSettled reached
   unfolding settledAfter
@@ -77,7 +77,7 @@ module _ (bus : Bus) (cards : List ℕ) where
       let same : settleRefusal bus cards ≡ cond (neverSettles bus cards) Refusal.unsettled 0 = judged ∙ rw (← e, none) in
       rw same (by-cases (neverSettles bus cards))
     where
-      by-cases : (b : Bool) → cond b (refusedAs Refusal.unsettled bus) (settledBy (leadingLooks bus cards) bus cards)
-          ≡ cond (eqb (cond b Refusal.unsettled 0) 0) (settledBy (leadingLooks bus cards) bus cards) (refusedAs (cond b Refusal.unsettled 0) bus)
+      by-cases : (b : Bool) → cond b (refusedAs Refusal.unsettled bus) (acceptedAfter (leadingLooks bus cards) bus cards)
+          ≡ cond (eqb (cond b Refusal.unsettled 0) 0) (acceptedAfter (leadingLooks bus cards) bus cards) (refusedAs (cond b Refusal.unsettled 0) bus)
       by-cases true = refl
       by-cases false = refl

@@ -20,7 +20,7 @@ use Rattle.bus.specs.Refusal as Refusal
 use Rattle.bus.specs.State.{arbitrationOf, isSettled}
 use Rattle.bus.specs.Sense.{makesSense}
 use Rattle.bus.specs.Steps.{afterLooksOf}
-use Rattle.bus.specs.Settle.{settledAfter, leadingLooks, neverSettles, isSenseless, namesNoCard, namesUnfitted, isElsewhere, namesIdle, settleReasons, listRefusal, settleRefusal, refusedAs, settledBy, settleOf}
+use Rattle.bus.specs.Settle.{settledAfter, leadingLooks, neverSettles, isSenseless, namesNoCard, namesUnfitted, isElsewhere, namesIdle, settleReasons, listRefusal, settleRefusal, refusedAs, acceptedAfter, settleOf}
 use Rattle.bus.specs.Promises.{SettledBy, SettleRefusedKeeps, SettleCountsLeast, SettleByNumber, SettleUnsettled, FourRoundsListed}
 use Rattle.bus.specs.declared.state.Bus.{Bus}
 use Rattle.bus.specs.declared.settle.Settlement.{Settlement}
@@ -30,7 +30,7 @@ use Rattle.bus.proofs.SettleLaws.{judged}
 module _ (bus : Bus) (cards : List ℕ) where
   -- ---- The two ways to answer
 
-  settle-accepted : settleRefusal bus cards ≡ 0 → settleOf bus cards ≡ settledBy (leadingLooks bus cards) bus cards
+  settle-accepted : settleRefusal bus cards ≡ 0 → settleOf bus cards ≡ acceptedAfter (leadingLooks bus cards) bus cards
   unfolding settleOf
   settle-accepted e = rw (eq-eqb _ _ e)
 

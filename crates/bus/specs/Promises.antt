@@ -11,7 +11,7 @@ use Rattle.lines.specs.Arbitration.{Highest, isRound, afterLooks}
 use Rattle.phases.specs.Phase as Phase
 use Rattle.bus.specs.Refusal as Refusal
 use Rattle.cards.specs.Cards.{cardIn}
-use Rattle.bus.specs.State.{freeBus, nobody, silent, moved, arbitrationOf, linesOf, isSettled}
+use Rattle.bus.specs.State.{freeBus, nobody, silent, changed, arbitrationOf, linesOf, isSettled}
 use Rattle.bus.specs.Sense.{makesSense}
 use Rattle.bus.specs.Setup.{emptyBus, setupOf}
 use Rattle.bus.specs.Steps.{requested, afterLooksOf, acknowledged}
@@ -73,7 +73,7 @@ SetupMakesSense = (fitted : ℕ) (pages : List ℕ) → length pages ≡ 16 → 
 abbrev pub LooksDrive : Type 0
 LooksDrive =
     (bus : Bus) → bus .phase ≡ Phase.arbitration → (looks : List ℕ)
-    → afterLooksOf bus looks ≡ moved bus (bus .phase) (bus .contenders) (afterLooks (arbitrationOf bus) (bus .driven) looks) (bus .granted)
+    → afterLooksOf bus looks ≡ changed bus (bus .phase) (bus .contenders) (afterLooks (arbitrationOf bus) (bus .driven) looks) (bus .granted)
 
 -- in another phase they change nothing.
 abbrev pub LooksElsewhere : Type 0
@@ -107,7 +107,7 @@ abbrev pub GrantsHighest : Type 0
 GrantsHighest =
     (bus : Bus) → (acknowledged bus .phase ≡ bus .phase → ⊥)
     → Highest (arbitrationOf bus) (acknowledged bus .granted)
-    × (acknowledged bus ≡ moved bus Phase.granted 0 silent (acknowledged bus .granted))
+    × (acknowledged bus ≡ changed bus Phase.granted 0 silent (acknowledged bus .granted))
 
 -- in arbitration it does so exactly where no contender's look would change what it drives; otherwise the state is as it was.
 abbrev pub GrantsSettled : Type 0

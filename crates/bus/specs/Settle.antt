@@ -80,10 +80,10 @@ settleRefusal bus cards = firstOf (settleReasons bus cards)
 abbrev pub refusedAs : ℕ → Bus → Settlement
 refusedAs number bus = record { answer = number; bus = bus; looks = 0 }
 
-abbrev pub settledBy : ℕ → Bus → List ℕ → Settlement
-settledBy n bus cards = record { answer = Refusal.accepted; bus = afterLooksOf bus (take n cards); looks = n }
+abbrev pub acceptedAfter : ℕ → Bus → List ℕ → Settlement
+acceptedAfter n bus cards = record { answer = Refusal.accepted; bus = afterLooksOf bus (take n cards); looks = n }
 
 unfoldable pub settleOf : Bus → List ℕ → Settlement
 settleOf bus cards =
-    cond (eqb (settleRefusal bus cards) Refusal.accepted) (settledBy (leadingLooks bus cards) bus cards)
+    cond (eqb (settleRefusal bus cards) Refusal.accepted) (acceptedAfter (leadingLooks bus cards) bus cards)
     (refusedAs (settleRefusal bus cards) bus)

@@ -7,13 +7,13 @@ use Rattle.bus.specs.Refusal as Refusal
 use Rattle.bus.specs.State.{freeBus}
 use Rattle.bus.specs.Sense.{pagesKnown}
 use Rattle.bus.specs.declared.state.Bus.{Bus}
-use Rattle.bus.specs.declared.state.Made.{Made}
+use Rattle.bus.specs.declared.state.SetupAnswer.{SetupAnswer}
 
 -- no cards, all pages absent
 abbrev pub emptyBus : Bus
 emptyBus = freeBus 0 (replicate 16 0)
 
-abbrev pub setupOf : ℕ → List ℕ → Made
+abbrev pub setupOf : ℕ → List ℕ → SetupAnswer
 setupOf fitted pages =
     cond (pagesKnown pages) (record { answer = Refusal.accepted; bus = freeBus fitted pages })
     (record { answer = Refusal.badPage; bus = emptyBus })

@@ -16,7 +16,7 @@ nobody = 0xFF
 abbrev pub silent : List ℕ
 silent = replicate 16 0
 
--- ---- The two places where a state is built. A new field gets its first value in freeBus, and is kept in moved.
+-- ---- The two places where a state is built. A new field gets its first value in freeBus, and is kept in changed.
 
 -- free, with these cards and pages
 abbrev pub freeBus : ℕ → List ℕ → Bus
@@ -30,8 +30,8 @@ freeBus fitted pages = record {
 }
 
 -- as it was, with all that the methods change given anew
-abbrev pub moved : Bus → ℕ → ℕ → List ℕ → ℕ → Bus
-moved bus phase contenders driven granted = record {
+abbrev pub changed : Bus → ℕ → ℕ → List ℕ → ℕ → Bus
+changed bus phase contenders driven granted = record {
   fitted = bus .fitted;
   pages = bus .pages;
   phase = phase;
@@ -42,7 +42,7 @@ moved bus phase contenders driven granted = record {
 
 -- a state, part by part
 abbrev pub stateOf : ℕ → List ℕ → ℕ → ℕ → List ℕ → ℕ → Bus
-stateOf fitted pages phase contenders driven granted = moved (freeBus fitted pages) phase contenders driven granted
+stateOf fitted pages phase contenders driven granted = changed (freeBus fitted pages) phase contenders driven granted
 
 -- ---- The lines
 

@@ -8,7 +8,7 @@ use lib.ListN.{set}
 use Rattle.lines.specs.Arbitration.{looked}
 use Rattle.phases.specs.Phase as Phase
 use Rattle.cards.specs.Cards.{cardIn, someCard, isWithin}
-use Rattle.bus.specs.State.{moved, silent, nobody, arbitrationOf, linesOf, isSettled}
+use Rattle.bus.specs.State.{changed, silent, nobody, arbitrationOf, linesOf, isSettled}
 use Rattle.bus.specs.declared.state.Bus.{Bus}
 
 -- ---- Asking for the bus
@@ -19,7 +19,7 @@ mayRequest bus cards = eqb (bus .phase) Phase.free && someCard cards && isWithin
 
 -- they contend, each driving 0
 abbrev pub requested : Bus → ℕ → Bus
-requested bus cards = cond (mayRequest bus cards) (moved bus Phase.arbitration cards silent (bus .granted)) bus
+requested bus cards = cond (mayRequest bus cards) (changed bus Phase.arbitration cards silent (bus .granted)) bus
 
 -- the cards arbitrate, and this one contends
 abbrev pub mayLook : Bus → ℕ → Bool
@@ -29,7 +29,7 @@ mayLook bus card = eqb (bus .phase) Phase.arbitration && cardIn (bus .contenders
 abbrev pub lookedBy : Bus → ℕ → Bus
 lookedBy bus card =
     cond (mayLook bus card)
-    (moved bus (bus .phase) (bus .contenders) (set (bus .driven) card (looked (arbitrationOf bus) (bus .driven) card)) (bus .granted))
+    (changed bus (bus .phase) (bus .contenders) (set (bus .driven) card (looked (arbitrationOf bus) (bus .driven) card)) (bus .granted))
     bus
 
 -- looks one after another
@@ -43,33 +43,33 @@ mayAcknowledge bus = eqb (bus .phase) Phase.arbitration && someCard (bus .conten
 
 -- the contender whose number the lines show is granted, the others go idle, and all priority driving ends (house)
 abbrev pub acknowledged : Bus → Bus
-acknowledged bus = cond (mayAcknowledge bus) (moved bus Phase.granted 0 silent (linesOf bus)) bus
+acknowledged bus = cond (mayAcknowledge bus) (changed bus Phase.granted 0 silent (linesOf bus)) bus
 
 -- ---- Handing the bus over and back
 
 -- this card is the granted one, in this phase
-abbrev pub mayHand : Bus → ℕ → ℕ → Bool
-mayHand bus from card = eqb (bus .phase) from && eqb (bus .granted) card
+abbrev pub mayTransfer : Bus → ℕ → ℕ → Bool
+mayTransfer bus from card = eqb (bus .phase) from && eqb (bus .granted) card
 
 -- its step leads to another phase
-abbrev pub handed : Bus → ℕ → ℕ → ℕ → Bus
-handed bus from to card = cond (mayHand bus from card) (moved bus to (bus .contenders) (bus .driven) (bus .granted)) bus
+abbrev pub transferred : Bus → ℕ → ℕ → ℕ → Bus
+transferred bus from to card = cond (mayTransfer bus from card) (changed bus to (bus .contenders) (bus .driven) (bus .granted)) bus
 
 abbrev pub transferOneBegun : Bus → ℕ → Bus
-transferOneBegun bus card = handed bus Phase.granted Phase.transferOne card
+transferOneBegun bus card = transferred bus Phase.granted Phase.transferOne card
 
 abbrev pub busTaken : Bus → ℕ → Bus
-busTaken bus card = handed bus Phase.transferOne Phase.owned card
+busTaken bus card = transferred bus Phase.transferOne Phase.owned card
 
 abbrev pub transferTwoBegun : Bus → ℕ → Bus
-transferTwoBegun bus card = handed bus Phase.owned Phase.transferTwo card
+transferTwoBegun bus card = transferred bus Phase.owned Phase.transferTwo card
 
 -- pHLDA falls with it (house), so the bus is free and nobody is granted
 abbrev pub givenBack : Bus → ℕ → Bus
-givenBack bus card = cond (mayHand bus Phase.transferTwo card) (moved bus Phase.free (bus .contenders) (bus .driven) nobody) bus
+givenBack bus card = cond (mayTransfer bus Phase.transferTwo card) (changed bus Phase.free (bus .contenders) (bus .driven) nobody) bus
 
 -- ---- Reset
 
 -- from any state: fitted cards and pages stay, contention and grant end
 abbrev pub resetTo : Bus → Bus
-resetTo bus = moved bus Phase.free 0 silent nobody
+resetTo bus = changed bus Phase.free 0 silent nobody

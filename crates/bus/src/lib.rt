@@ -7,4 +7,4 @@ mod steps;
 
 pub use settle::Settlement;
 pub use state::Bus;
-pub use state::Made;
+pub use state::SetupAnswer;

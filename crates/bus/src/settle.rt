@@ -4,7 +4,7 @@ ghost use mathlib.Core.Bool.{cond};
 ghost use lib.Dec.{leb};
 ghost use Rattle.cards.specs.Cards.{cardIn};
 ghost use Rattle.bus.specs.Refusal.{unsettled};
-ghost use Rattle.bus.specs.Settle.{everyListed, leadingLooks, listRefusal, neverSettles, refusedAs, settledBy, settleOf};
+ghost use Rattle.bus.specs.Settle.{everyListed, leadingLooks, listRefusal, neverSettles, refusedAs, acceptedAfter, settleOf};
 use crate::numbers::*;
 use crate::state::Bus;
 use cards::card_in;
@@ -84,7 +84,7 @@ impl Bus {
     fn settle_by(self, cards: &[u8]) -> Settlement
         ensures { λ r. ⌜ r ≡ cond (neverSettles self (now (cards .entry)))
             (refusedAs unsettled self)
-            (settledBy (leadingLooks self (now (cards .entry))) self (now (cards .entry))) ⌝ }
+            (acceptedAfter (leadingLooks self (now (cards .entry))) self (now (cards .entry))) ⌝ }
     {
         let mut bus = self;
         let mut n: usize = 0;

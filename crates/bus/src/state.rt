@@ -26,7 +26,7 @@ pub struct Bus {
 }
 
 // What setup answers.
-pub struct Made {
+pub struct SetupAnswer {
     pub answer: u8,
     pub bus: Bus,
 }
@@ -58,16 +58,16 @@ fn driving_fits(contenders: u16, driven: [u8; 16]) -> bool
 
 impl Bus {
     // Refused, it answers a bus with no cards and all pages absent.
-    pub fn setup(fitted: u16, pages: [u8; 16]) -> Made
+    pub fn setup(fitted: u16, pages: [u8; 16]) -> SetupAnswer
         ensures { λ r. ⌜ r ≡ setupOf fitted pages ⌝ }
     {
         if pages_known(pages) {
-            Made {
+            SetupAnswer {
                 answer: ACCEPTED,
                 bus: Bus::freed(fitted, pages),
             }
         } else {
-            Made {
+            SetupAnswer {
                 answer: BAD_PAGE,
                 bus: Bus::freed(0, [0; 16]),
             }

@@ -8,8 +8,8 @@ ghost use Rattle.bus.specs.Steps.{
   lookedBy,
   mayAcknowledge,
   acknowledged,
-  mayHand,
-  handed,
+  mayTransfer,
+  transferred,
   transferOneBegun,
   busTaken,
   transferTwoBegun,
@@ -83,25 +83,25 @@ impl Bus {
     pub fn begin_transfer_one(self, card: u8) -> Bus
         ensures { λ r. ⌜ r ≡ transferOneBegun self card ⌝ }
     {
-        self.hand(GRANTED, TRANSFER_ONE, card)
+        self.transfer(GRANTED, TRANSFER_ONE, card)
     }
 
     pub fn take_bus(self, card: u8) -> Bus
         ensures { λ r. ⌜ r ≡ busTaken self card ⌝ }
     {
-        self.hand(TRANSFER_ONE, OWNED, card)
+        self.transfer(TRANSFER_ONE, OWNED, card)
     }
 
     pub fn begin_transfer_two(self, card: u8) -> Bus
         ensures { λ r. ⌜ r ≡ transferTwoBegun self card ⌝ }
     {
-        self.hand(OWNED, TRANSFER_TWO, card)
+        self.transfer(OWNED, TRANSFER_TWO, card)
     }
 
     pub fn give_back(mut self, card: u8) -> Bus
         ensures { λ r. ⌜ r ≡ givenBack self card ⌝ }
     {
-        if self.may_hand(TRANSFER_TWO, card) {
+        if self.may_transfer(TRANSFER_TWO, card) {
             self.phase = FREE; // pHLDA falls with it (house)
             self.granted = NOBODY;
         }
@@ -109,17 +109,17 @@ impl Bus {
     }
 
     // The granted card leads from one phase to another.
-    fn hand(mut self, from: u8, to: u8, card: u8) -> Bus
-        ensures { λ r. ⌜ r ≡ handed self from to card ⌝ }
+    fn transfer(mut self, from: u8, to: u8, card: u8) -> Bus
+        ensures { λ r. ⌜ r ≡ transferred self from to card ⌝ }
     {
-        if self.may_hand(from, card) {
+        if self.may_transfer(from, card) {
             self.phase = to;
         }
         self
     }
 
-    fn may_hand(self, from: u8, card: u8) -> bool
-        ensures { λ r. ⌜ r ≡ mayHand self from card ⌝ }
+    fn may_transfer(self, from: u8, card: u8) -> bool
+        ensures { λ r. ⌜ r ≡ mayTransfer self from card ⌝ }
     {
         (self.phase == from) & (self.granted == card)
     }

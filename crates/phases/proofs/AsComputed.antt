@@ -19,6 +19,7 @@ driver-table = record {
 
 pub signal-table : SignalTable
 signal-table = record {
+  weights = refl;
   free = refl;
   arbitration = refl;
   granted = refl;
@@ -31,6 +32,7 @@ signal-table = record {
 pub status-table : StatusTable
 unfolding isAmong statusOf
 status-table = record {
+  weights = refl;
   noCycle = refl;
   byteRead = refl;
   opcodeFetch = refl;
@@ -45,14 +47,13 @@ status-table = record {
 pub control-table : ControlTable
 unfolding isAmong statusOf strobeOf controlIn
 control-table = record {
-  transferOne = refl;
-  transferTwo = refl;
+  weights = refl;
+  free = refl;
   granted = refl;
-  quiet = refl;
-  reading = refl;
-  writing = refl;
-  cardReads = refl;
-  cardWrites = refl;
+  transferOne = refl;
+  owned = refl;
+  transferTwo = refl;
+  noCycle = refl;
   memoryWrite = refl;
   portWrite = refl;
   memoryRead = refl;

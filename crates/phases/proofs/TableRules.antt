@@ -9,10 +9,10 @@ use lib.ListN.{getD}
 use Rattle.words.specs.Below.{allBelow}
 use Rattle.words.specs.Among.{isAmong}
 use Rattle.words.proofs.BelowLaws.{same-below, same-in-rows, none-beyond}
-use Rattle.phases.specs.Signal.{isAcknowledged, signalsIn}
+use Rattle.phases.specs.Signal.{pHLDA, isAcknowledged, signalsIn}
 use Rattle.phases.specs.Driver.{driverOf}
 use Rattle.phases.specs.Status.{statusOf}
-use Rattle.phases.specs.Control.{pHLDA, allowsCycles, isReading, isWriting, strobeOf}
+use Rattle.phases.specs.Control.{allowsCycles, isReading, isWriting, strobeOf}
 
 abbrev pub drivers : List (List ℕ)
 drivers =
@@ -52,7 +52,7 @@ unfolding allBelow isAmong statusOf
 status-beyond = none-beyond statusOf 16 240 refl
 
 abbrev pub strobes : List ℕ
-strobes = 0 ∷ 0 ∷ 0 ∷ 0 ∷ 0 ∷ 0 ∷ 4 ∷ 4 ∷ 8 ∷ 4 ∷ 8 ∷ 4 ∷ 8 ∷ 0 ∷ 0 ∷ 0 ∷ []
+strobes = 0 ∷ 0 ∷ 0 ∷ 0 ∷ 0 ∷ 0 ∷ 0x08 ∷ 0x08 ∷ 0x10 ∷ 0x08 ∷ 0x10 ∷ 0x08 ∷ 0x10 ∷ 0 ∷ 0 ∷ 0 ∷ []
 
 pub strobe-entry : (kind : ℕ) → kind < 16 → getD strobes kind 0 ≡ strobeOf kind
 unfolding allBelow isAmong strobeOf
@@ -68,7 +68,7 @@ unfolding strobeOf
 control-fits phase kind =
     omega (
       arith,
-      at-most (allowsCycles phase) (strobeOf kind) 0 (at-most (isReading kind) 4 _ (lit≤ tt) (at-most (isWriting kind) 8 0 (lit≤ tt) (lit≤ tt))) (lit≤ tt),
+      at-most (allowsCycles phase) (strobeOf kind) 0 (at-most (isReading kind) 8 _ (lit≤ tt) (at-most (isWriting kind) 16 0 (lit≤ tt) (lit≤ tt))) (lit≤ tt),
       at-most (isAcknowledged phase) pHLDA 0 (lit≤ tt) (lit≤ tt),
     )
   where

@@ -1,44 +1,41 @@
--- The five control outputs, and the write strobe that is made of one of them (000, 2.2.5, Table 7 and 2.7.5.3; 01, "State and phases").
+-- The five control outputs, and the write strobe that is made of one of them (000, 2.2.5, Table 7, 2.7.4 and 2.7.5).
 use Prim.Native.Nat.{ℕ, _+_}
 use mathlib.Core.Bool.{Bool, cond, not, _&&_, _||_}
 use mathlib.Core.List.{[], _∷_}
 use lib.Dec.{eqb}
-use Rattle.words.specs.Bits.{bitAt}
 use Rattle.words.specs.Among.{isAmong}
 use Rattle.phases.specs.Phase as Phase
-use Rattle.phases.specs.Signal.{isAcknowledged}
-use Rattle.phases.specs.Status.{byteRead, opcodeFetch, byteWrite, wordRead, wordWrite, input, output}
+use Rattle.phases.specs.Kind as Kind
+use Rattle.phases.specs.Signal.{pHLDA, isOn, isAcknowledged}
+use Rattle.phases.specs.Status.{sOUT}
 
--- ---- Their weights in a byte (house)
+-- ---- Their weights in a byte of their own (house): pHLDA keeps the weight that it has among the signals
 
 abbrev pub pSYNC : ℕ
 pSYNC = 0x01
 
 abbrev pub pSTVAL : ℕ
-pSTVAL = 0x02
+pSTVAL = 0x04
 
 abbrev pub pDBIN : ℕ
-pDBIN = 0x04
+pDBIN = 0x08
 
 abbrev pub pWR : ℕ
-pWR = 0x08
-
-abbrev pub pHLDA : ℕ
-pHLDA = 0x10
+pWR = 0x10
 
 -- ---- The rule
 
--- a master may have a cycle in these phases (01, "Events"; 000, 2.8.2.3.5)
+-- some master has cycles in these phases (000, 2.8.2.3.5; 01, "Events")
 abbrev pub allowsCycles : ℕ → Bool
 allowsCycles phase = eqb phase Phase.free || eqb phase Phase.arbitration || eqb phase Phase.owned
 
--- cycles with the read strobe (000, 2.7.4.1 and 2.7.4.2)
+-- cycles with the read strobe (000, 2.7.4)
 abbrev pub isReading : ℕ → Bool
-isReading kind = isAmong kind (byteRead ∷ opcodeFetch ∷ wordRead ∷ input ∷ [])
+isReading kind = isAmong kind (Kind.byteRead ∷ Kind.opcodeFetch ∷ Kind.wordRead ∷ Kind.input ∷ [])
 
--- cycles with the write strobe (000, 2.7.5.1 and 2.7.5.2)
+-- cycles with the write strobe (000, 2.7.5)
 abbrev pub isWriting : ℕ → Bool
-isWriting kind = isAmong kind (byteWrite ∷ wordWrite ∷ output ∷ [])
+isWriting kind = isAmong kind (Kind.byteWrite ∷ Kind.wordWrite ∷ Kind.output ∷ [])
 
 -- the data strobe of a cycle of this kind; any other kind has none
 unfoldable pub strobeOf : ℕ → ℕ
@@ -49,6 +46,6 @@ strobeOf kind = cond (isReading kind) pDBIN (cond (isWriting kind) pWR 0)
 unfoldable pub controlIn : ℕ → ℕ → ℕ
 controlIn phase kind = cond (allowsCycles phase) (strobeOf kind) 0 + cond (isAcknowledged phase) pHLDA 0
 
--- MWRT, made of pWR and sOUT as they are on the bus
+-- MWRT, made of pWR and sOUT as they stand on the bus
 abbrev pub isMWRT : ℕ → ℕ → Bool
-isMWRT control status = bitAt control 3 && not (bitAt status 3)
+isMWRT control status = isOn pWR control && not (isOn sOUT status)

@@ -21,8 +21,8 @@ control = 3
 
 -- ---- The codes for who drives a group
 
-abbrev pub nobody : ℕ
-nobody = 0
+abbrev pub noDriver : ℕ
+noDriver = 0
 
 abbrev pub permanent : ℕ
 permanent = 1
@@ -48,5 +48,5 @@ abbrev pub driverOf : ℕ → ℕ → ℕ
 driverOf phase group =
     cond (leb phase Phase.transferTwo && leb group control)
     (cond (permanentDrives phase group) (cond (cardDrives phase group) both permanent)
-    (cond (cardDrives phase group) card nobody))
-    nobody
+    (cond (cardDrives phase group) card noDriver))
+    noDriver

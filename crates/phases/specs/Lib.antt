@@ -1,5 +1,6 @@
--- Read in this order: the phases; the signals true in each; who drives which lines; status by kind of cycle; control outputs; what is promised.
+-- Read in this order: the phases and the kinds of cycles; the signals true in each phase; who drives which lines; status by kind of cycle; control outputs; what is promised.
 pub mod Phase
+pub mod Kind
 pub mod Signal
 pub mod Driver
 pub mod Status

@@ -1,8 +1,12 @@
 -- The signals that an answer shows, as 01 weighs them in "The program and one whole run", and those that are true in a phase.
-use Prim.Native.Nat.{ℕ, _+_}
+use Prim.Native.Nat.{ℕ, _+_, _/_, _%_}
 use mathlib.Core.Bool.{Bool, cond}
 use lib.Dec.{eqb}
 use Rattle.phases.specs.Phase.{arbitration, granted, transferOne, owned, transferTwo, isFrom}
+
+-- the signal of this weight is true in a byte
+abbrev pub isOn : ℕ → ℕ → Bool
+isOn weight byte = eqb (byte / weight % 2) 1
 
 abbrev pub HOLD : ℕ
 HOLD = 0x01

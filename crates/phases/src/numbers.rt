@@ -1,4 +1,4 @@
-// The numbers of 01 that go with phases and kinds, under the names that specs/ has for them.
+// The numbers of phases, drivers, signals, status and control outputs, as constants; specs/ has a definition for each.
 
 // Phases.
 pub const FREE: u8 = 0;
@@ -46,9 +46,7 @@ pub const S_OUT: u8 = 0x08;
 
 pub const S_WO: u8 = 0x10;
 
-// Control outputs, in a byte of their own.
-pub const C_DBIN: u8 = 0x04;
+// Control outputs, in a byte of their own, where pHLDA keeps its weight.
+pub const P_DBIN: u8 = 0x08;
 
-pub const C_WR: u8 = 0x08;
-
-pub const C_HLDA: u8 = 0x10;
+pub const P_WR: u8 = 0x10;

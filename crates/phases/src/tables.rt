@@ -1,10 +1,10 @@
 // What stands on the lines by phase and by kind of cycle, from constant tables: drivers, signals, status and control outputs.
 ghost use mathlib.Core.Path.{_≡_};
 ghost use mathlib.Core.Bool.{cond};
-ghost use Rattle.phases.specs.Signal.{isAcknowledged, signalsIn};
+ghost use Rattle.phases.specs.Signal.{pHLDA, isAcknowledged, signalsIn};
 ghost use Rattle.phases.specs.Driver.{driverOf};
 ghost use Rattle.phases.specs.Status.{statusOf};
-ghost use Rattle.phases.specs.Control.{pHLDA, allowsCycles, strobeOf, controlIn, isMWRT};
+ghost use Rattle.phases.specs.Control.{allowsCycles, strobeOf, controlIn, isMWRT};
 use crate::numbers::*;
 
 // Who drives the address, status, data-out and control lines: a row for each phase.
@@ -58,13 +58,13 @@ const STROBES: [u8; 16] = [
     0,
     0,
     0,
-    C_DBIN,
-    C_DBIN,
-    C_WR,
-    C_DBIN,
-    C_WR,
-    C_DBIN,
-    C_WR,
+    P_DBIN,
+    P_DBIN,
+    P_WR,
+    P_DBIN,
+    P_WR,
+    P_DBIN,
+    P_WR,
     0,
     0,
     0,
@@ -110,7 +110,7 @@ fn strobe(kind: u8) -> u8
 pub fn mwrt(control: u8, status: u8) -> bool
     ensures { λ r. ⌜ r ≡ isMWRT control status ⌝ }
 {
-    ((control >> 3) % 2 == 1) & !((status >> 3) % 2 == 1)
+    ((control / P_WR) % 2 == 1) & !((status / S_OUT) % 2 == 1)
 }
 
 // The true control outputs in a phase, with a cycle of this kind in it; a kind that is no cycle's has no strobe.
@@ -134,7 +134,7 @@ fn hold_acknowledge(phase: u8) -> u8
     ensures { λ r. ⌜ r ≡ cond (isAcknowledged phase) pHLDA 0 ⌝ }
 {
     if (GRANTED <= phase) & (phase <= TRANSFER_TWO) {
-        C_HLDA
+        P_HLDA
     } else {
         0
     }

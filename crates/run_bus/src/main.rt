@@ -192,9 +192,9 @@ fn settles() {
 // ---- Words over pages of either width
 
 // Cycles and datum.
-fn show_moved(moved: Moved) {
-    put(moved.cycles);
-    put_word(moved.datum);
+fn show_moved(changed: Moved) {
+    put(changed.cycles);
+    put_word(changed.datum);
     end_line();
 }
 

@@ -9,5 +9,5 @@ give-back-spec =
     tie.close
     (tie.spec
     (λ c κs. search needs)
-    (λ c. rw (sym (c .before .may-hand .ensures) ∙ c .if1 .taken))
-    (λ c. rw (sym (c .before .may-hand .ensures) ∙ c .if1 .left)))
+    (λ c. rw (sym (c .before .may-transfer .ensures) ∙ c .if1 .taken))
+    (λ c. rw (sym (c .before .may-transfer .ensures) ∙ c .if1 .left)))
