@@ -21,7 +21,7 @@ use Rattle.phases.specs.Phase as Phase
 use Rattle.cards.specs.Cards.{cardIn, someCard}
 use Rattle.bus.specs.State.{changed, silent, arbitrationOf, linesOf, isSettled}
 use Rattle.bus.specs.Steps.{lookedBy, afterLooksOf, mayAcknowledge, acknowledged}
-use Rattle.bus.specs.Promises.{Sensible, LooksDrive, LooksElsewhere, HighestThere, FourRounds, SettledOneWay, GrantsHighest, GrantsSettled}
+use Rattle.bus.specs.Promises.{Sensible, LooksDrive, LooksElsewhere, HighestThere, FourRounds, SettledOneWay, SettledShowIt, GrantsHighest, GrantsSettled}
 use Rattle.bus.specs.declared.state.Bus.{Bus}
 use Rattle.cards.proofs.CardLaws.{card-below, some-at, some-of}
 use Rattle.bus.proofs.SenseLaws.{sense-means}
@@ -93,6 +93,9 @@ settled-highest bus some still =
     subst (Highest (arbitrationOf bus))
     (sym (settled-show-highest (arbitrationOf bus) (by-number 4 (λ q. cardIn (bus .contenders) q) .0) (best .0) (best .1) (bus .driven) still))
     (best .1)
+
+pub settled-show-it : SettledShowIt
+settled-show-it bus e a = let one = sense-means bus .0 e .someInArbitration a in settled-highest bus (some-of (bus .contenders) (one .0) (one .1))
 
 acknowledge-taken : (bus : Bus) → mayAcknowledge bus ≡ true → acknowledged bus ≡ changed bus Phase.granted 0 silent (linesOf bus)
 acknowledge-taken bus may = rw may

@@ -9,11 +9,10 @@ use native.Mathlib.Omega.{arith}
 use lib.Dec.{eqb, lit≤}
 use lib.ListN.{getD, getD-replicate, replicate}
 use borrow.Author.Tests.{leb-true, le-leb}
-use Rattle.words.specs.Bits.{bitAt}
 use Rattle.words.proofs.TestLaws.{true-or-false}
 use Rattle.words.proofs.BelowLaws.{all-at, all-of}
 use Rattle.phases.specs.Phase as Phase
-use Rattle.phases.specs.Signal.{signalsIn}
+use Rattle.phases.specs.Signal.{HOLD, pHLDA, isOn, signalsIn}
 use Rattle.bus.specs.Sense.{pagesKnown, makesSense}
 use Rattle.bus.specs.State.{freeBus}
 use Rattle.bus.specs.Setup.{emptyBus, setupOf}
@@ -49,7 +48,7 @@ setup-makes-sense fitted pages size = go (true-or-false (pagesKnown pages))
 
 pub hold-false-is-not-free : HoldFalseIsNotFree
 hold-false-is-not-free bus e = (
-  ap (λ (p : ℕ). bitAt (signalsIn p) 0) e,
-  ap (λ (p : ℕ). bitAt (signalsIn p) 1) e,
+  ap (λ (p : ℕ). isOn HOLD (signalsIn p)) e,
+  ap (λ (p : ℕ). isOn pHLDA (signalsIn p)) e,
   λ cards. let busy : eqb (bus .phase) Phase.free ≡ false = ap (λ (p : ℕ). eqb p Phase.free) e in rw busy,
 )

@@ -122,7 +122,7 @@ pub record OutOfTurn : Type 0 where
   pub requestNobody : requested setUp 0x0000 ≡ setUp
   pub requestUnfitted : requested setUp 0x0003 ≡ setUp
   pub lookIdle : lookedBy (requested setUp 0x0002) 3 ≡ requested setUp 0x0002
-  pub lookOutside : lookedBy setUp 1 ≡ setUp
+  pub lookOutside : lookedBy (stateOf 0x000A pages Phase.granted 0x0002 silent 3) 1 ≡ stateOf 0x000A pages Phase.granted 0x0002 silent 3
   pub lookOfNoCard : lookedBy (requested setUp 0x0002) 17 ≡ requested setUp 0x0002
   pub acknowledgeNobody : acknowledged (stateOf 0x000A pages Phase.arbitration 0 silent 0xFF) ≡ stateOf 0x000A pages Phase.arbitration 0 silent 0xFF
   pub otherCard : after (beginTransferOne 1) grantedThree ≡ grantedThree

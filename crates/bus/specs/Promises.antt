@@ -5,7 +5,6 @@ use mathlib.Core.Logic.{_↔_}
 use mathlib.Core.Bool.{true, false}
 use mathlib.Core.List.{List, [], _∷_, _++_, flatten}
 use lib.ListN.{length, getD, take}
-use Rattle.words.specs.Bits.{bitAt}
 use Rattle.words.specs.First.{appliesAs}
 use Rattle.lines.specs.Arbitration.{Highest, isRound, afterLooks}
 use Rattle.phases.specs.Phase as Phase
@@ -15,7 +14,7 @@ use Rattle.bus.specs.State.{freeBus, nobody, silent, changed, arbitratio
 use Rattle.bus.specs.Sense.{makesSense}
 use Rattle.bus.specs.Setup.{emptyBus, setupOf}
 use Rattle.bus.specs.Steps.{requested, afterLooksOf, acknowledged}
-use Rattle.phases.specs.Signal.{signalsIn}
+use Rattle.phases.specs.Signal.{HOLD, pHLDA, isOn, signalsIn}
 use Rattle.bus.specs.Settle.{settleReasons, listRefusal, settleOf}
 use Rattle.bus.specs.Method.{Method, after}
 use Rattle.bus.specs.declared.state.Bus.{Bus}
@@ -94,11 +93,16 @@ FourRounds =
     → (linesOf (afterLooksOf bus (flatten (r₁ ∷ r₂ ∷ r₃ ∷ r₄ ∷ []) ++ further)) ≡ m)
     × (isSettled (afterLooksOf bus (flatten (r₁ ∷ r₂ ∷ r₃ ∷ r₄ ∷ []) ++ further)) ≡ true)
 
--- and for these contenders nothing else that makes sense is settled.
+-- for these contenders nothing else that makes sense is settled,
 abbrev pub SettledOneWay : Type 0
 SettledOneWay =
     (bus other : Bus) → makesSense bus ≡ true → makesSense other ≡ true → bus .contenders ≡ other .contenders
     → isSettled bus ≡ true → isSettled other ≡ true → bus .driven ≡ other .driven
+
+-- and settled lines show its number.
+abbrev pub SettledShowIt : Type 0
+SettledShowIt =
+    (bus : Bus) → makesSense bus ≡ true → bus .phase ≡ Phase.arbitration → isSettled bus ≡ true → Highest (arbitrationOf bus) (linesOf bus)
 
 -- ---- The grant
 
@@ -109,7 +113,7 @@ GrantsHighest =
     → Highest (arbitrationOf bus) (acknowledged bus .granted)
     × (acknowledged bus ≡ changed bus Phase.granted 0 silent (acknowledged bus .granted))
 
--- in arbitration it does so exactly where no contender's look would change what it drives; otherwise the state is as it was.
+-- in arbitration it does so where the lines are settled, and where they aren't it leaves the state as it was.
 abbrev pub GrantsSettled : Type 0
 GrantsSettled =
     (bus : Bus) → makesSense bus ≡ true → bus .phase ≡ Phase.arbitration
@@ -117,7 +121,7 @@ GrantsSettled =
 
 -- ---- Settle
 
--- Refused, settle answers the state as given and a count of 0.
+-- A refusal leaves the state alone and counts no look.
 abbrev pub SettleRefusedKeeps : Type 0
 SettleRefusedKeeps =
     (bus : Bus) (cards : List ℕ) → (settleOf bus cards .answer ≡ Refusal.accepted → ⊥)
@@ -133,20 +137,20 @@ pub record SettledBy (bus : Bus) (cards : List ℕ) (settlement : Settlement) : 
 abbrev pub SettleCountsLeast : Type 0
 SettleCountsLeast = (bus : Bus) (cards : List ℕ) → settleOf bus cards .answer ≡ Refusal.accepted → SettledBy bus cards (settleOf bus cards)
 
--- It is refused with n exactly if n applies, to the state, the whole list or the looks, and no lower number does.
+-- Its refusal is the lowest number that applies to the state, to anything in the list or to the looks.
 abbrev pub SettleByNumber : Type 0
 SettleByNumber =
     (bus : Bus) (cards : List ℕ) (n : ℕ) → 0 < n
     → (settleOf bus cards .answer ≡ n)
     ↔ ((appliesAs n (settleReasons bus cards) ≡ true) × ((k : ℕ) → k < n → appliesAs k (settleReasons bus cards) ≡ false))
 
--- Where nothing is wrong with the state or the list, it is refused as unsettled exactly if no leading part of the list settles the lines.
+-- Where the state and the list are in order, unsettled means that the lines are not settled after any beginning of the list.
 abbrev pub SettleUnsettled : Type 0
 SettleUnsettled =
     (bus : Bus) (cards : List ℕ) → listRefusal bus cards ≡ 0
     → (settleOf bus cards .answer ≡ Refusal.unsettled) ↔ ((n : ℕ) → n ≤ length cards → isSettled (afterLooksOf bus (take n cards)) ≡ false)
 
--- A list that begins with four rounds is never refused as unsettled.
+-- Four rounds at the beginning of a list are enough for it never to be unsettled.
 abbrev pub FourRoundsListed : Type 0
 FourRoundsListed =
     (bus : Bus) (r₁ r₂ r₃ r₄ : List ℕ) → isRound (arbitrationOf bus) r₁ ≡ true → isRound (arbitrationOf bus) r₂ ≡ true
@@ -159,4 +163,4 @@ FourRoundsListed =
 abbrev pub HoldFalseIsNotFree : Type 0
 HoldFalseIsNotFree =
     (bus : Bus) → bus .phase ≡ Phase.transferTwo
-    → (bitAt (signalsIn (bus .phase)) 0 ≡ false) × (bitAt (signalsIn (bus .phase)) 1 ≡ true) × ((cards : ℕ) → requested bus cards ≡ bus)
+    → (isOn HOLD (signalsIn (bus .phase)) ≡ false) × (isOn pHLDA (signalsIn (bus .phase)) ≡ true) × ((cards : ℕ) → requested bus cards ≡ bus)

@@ -4,7 +4,7 @@ use Prim.Native.Nat.{ℕ}
 abbrev pub accepted : ℕ
 accepted = 0x00
 
--- the state makes no sense
+-- a senseless state
 abbrev pub senseless : ℕ
 senseless = 0x02
 

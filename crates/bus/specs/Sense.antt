@@ -14,18 +14,18 @@ use Rattle.bus.specs.declared.state.Bus.{Bus}
 abbrev pub hasSixteen : Bus → Bool
 hasSixteen bus = eqb (length (bus .pages)) 16 && eqb (length (bus .driven)) 16
 
--- page codes are at most 2
+-- every page has one of the codes 0, 1 and 2
 unfoldable pub pagesKnown : List ℕ → Bool
 pagesKnown pages = allBelow (λ p. leb (getD pages p 0) 2) 16
 
--- contenders are fitted, and there is at least one in arbitration and none in another phase
+-- only fitted cards contend; in arbitration someone does, and otherwise nobody
 abbrev pub contentionFits : Bus → Bool
 contentionFits bus =
     isWithin (bus .contenders) (bus .fitted)
     && (not (eqb (bus .phase) Phase.arbitration) || someCard (bus .contenders))
     && (eqb (bus .phase) Phase.arbitration || not (someCard (bus .contenders)))
 
--- a contender drives at most 15, and any other card drives 0
+-- contenders drive what four lines can show, and the rest of the cards nothing
 unfoldable pub drivingFits : ℕ → List ℕ → Bool
 drivingFits contenders driven = allBelow (λ n. leb (getD driven n 0) (cond (cardIn contenders n) 15 0)) 16
 

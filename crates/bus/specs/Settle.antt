@@ -1,8 +1,8 @@
 -- Settle: looks in list order until the lines are settled (01, "Looking and settling", "Refusals and their order").
 use Prim.Native.Nat.{ℕ, suc}
-use mathlib.Core.Bool.{Bool, cond, not}
+use mathlib.Core.Bool.{Bool, cond, not, _||_}
 use mathlib.Core.List.{List, [], _∷_, _++_}
-use lib.Dec.{eqb, leb}
+use lib.Dec.{eqb, leb, ltb}
 use lib.ListN.{length, getD, take}
 use Rattle.words.specs.Below.{allBelow}
 use Rattle.words.specs.First.{Reason, reason, firstOf, leastBelow}
@@ -21,17 +21,17 @@ use Rattle.bus.specs.declared.settle.Settlement.{Settlement}
 unfoldable pub settledAfter : Bus → List ℕ → ℕ → Bool
 settledAfter bus cards n = isSettled (afterLooksOf bus (take n cards))
 
--- the least number of leading looks that settles the lines
+-- how many looks settle must take: the length of the shortest beginning of the list that does it
 unfoldable pub leadingLooks : Bus → List ℕ → ℕ
 leadingLooks bus cards = leastBelow (settledAfter bus cards) (suc (length cards))
 
--- no leading part does, the whole list neither
+-- no beginning does it, and neither does the list as a whole
 unfoldable pub neverSettles : Bus → List ℕ → Bool
 neverSettles bus cards = allBelow (λ n. not (settledAfter bus cards n)) (suc (length cards))
 
 -- ---- The refusals
 
--- the test holds of every card in the list
+-- the test holds of every number in the list
 unfoldable pub everyListed : (ℕ → Bool) → List ℕ → Bool
 everyListed test cards = allBelow (λ i. test (getD cards i 0)) (length cards)
 
@@ -43,9 +43,13 @@ isSenseless bus = not (makesSense bus)
 abbrev pub namesNoCard : List ℕ → Bool
 namesNoCard cards = not (everyListed (λ card. leb card 15) cards)
 
+-- each card in the list is in the set; a number above 15 is no card, and not asked about
+abbrev pub cardsWithin : ℕ → List ℕ → Bool
+cardsWithin set cards = everyListed (λ card. ltb 15 card || cardIn set card) cards
+
 -- 05: a card that isn't fitted
 abbrev pub namesUnfitted : Bus → List ℕ → Bool
-namesUnfitted bus cards = not (everyListed (cardIn (bus .fitted)) cards)
+namesUnfitted bus cards = not (cardsWithin (bus .fitted) cards)
 
 -- 06: outside arbitration
 abbrev pub isElsewhere : Bus → Bool
@@ -53,7 +57,7 @@ isElsewhere bus = not (eqb (bus .phase) Phase.arbitration)
 
 -- 07: a card that doesn't contend
 abbrev pub namesIdle : Bus → List ℕ → Bool
-namesIdle bus cards = not (everyListed (cardIn (bus .contenders)) cards)
+namesIdle bus cards = not (cardsWithin (bus .contenders) cards)
 
 -- what the state and the whole list are judged for before the first look, the lowest number first
 abbrev pub listReasons : Bus → List ℕ → List Reason

@@ -9,7 +9,7 @@ use Rattle.bus.specs.Sense.{pagesKnown}
 use Rattle.bus.specs.declared.state.Bus.{Bus}
 use Rattle.bus.specs.declared.state.SetupAnswer.{SetupAnswer}
 
--- no cards, all pages absent
+-- an empty chassis: nothing fitted, no memory on any page
 abbrev pub emptyBus : Bus
 emptyBus = freeBus 0 (replicate 16 0)
 

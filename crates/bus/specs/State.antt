@@ -54,6 +54,6 @@ arbitrationOf bus = fourLines (λ n. cardIn (bus .contenders) n)
 abbrev pub linesOf : Bus → ℕ
 linesOf bus = shown (arbitrationOf bus) (bus .driven)
 
--- no contender's look would change what it drives
+-- whoever contends would go on driving the same after a look
 abbrev pub isSettled : Bus → Bool
 isSettled bus = settled (arbitrationOf bus) (bus .driven)

@@ -1,5 +1,5 @@
--- What each method hands back. In a phase, or for a card, in which the events will refuse it, that is the state as given (01, "Events", "Looking
--- and settling").
+-- What each method hands back: its step where that may be taken, and else the state as given. Whether the state makes sense is not asked here
+-- (01, "Events", "Looking and settling").
 use Prim.Native.Nat.{ℕ}
 use mathlib.Core.Bool.{Bool, cond, _&&_}
 use mathlib.Core.List.{List, [], _∷_}
@@ -17,7 +17,7 @@ use Rattle.bus.specs.declared.state.Bus.{Bus}
 abbrev pub mayRequest : Bus → ℕ → Bool
 mayRequest bus cards = eqb (bus .phase) Phase.free && someCard cards && isWithin cards (bus .fitted)
 
--- they contend, each driving 0
+-- then those cards contend, and start with nothing on the lines
 abbrev pub requested : Bus → ℕ → Bus
 requested bus cards = cond (mayRequest bus cards) (changed bus Phase.arbitration cards silent (bus .granted)) bus
 
@@ -41,7 +41,7 @@ afterLooksOf bus (card ∷ cards) = afterLooksOf (lookedBy bus card) cards
 abbrev pub mayAcknowledge : Bus → Bool
 mayAcknowledge bus = eqb (bus .phase) Phase.arbitration && someCard (bus .contenders) && isSettled bus
 
--- the contender whose number the lines show is granted, the others go idle, and all priority driving ends (house)
+-- the lines name the card that is granted; nobody contends any more, nor drives them (house)
 abbrev pub acknowledged : Bus → Bus
 acknowledged bus = cond (mayAcknowledge bus) (changed bus Phase.granted 0 silent (linesOf bus)) bus
 
@@ -64,7 +64,7 @@ busTaken bus card = transferred bus Phase.transferOne Phase.owned card
 abbrev pub transferTwoBegun : Bus → ℕ → Bus
 transferTwoBegun bus card = transferred bus Phase.owned Phase.transferTwo card
 
--- pHLDA falls with it (house), so the bus is free and nobody is granted
+-- pHLDA ends here too (house), so the bus is free, and no card's
 abbrev pub givenBack : Bus → ℕ → Bus
 givenBack bus card = cond (mayTransfer bus Phase.transferTwo card) (changed bus Phase.free (bus .contenders) (bus .driven) nobody) bus
 

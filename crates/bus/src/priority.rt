@@ -20,7 +20,7 @@ impl Bus {
         lines
     }
 
-    // No contender's look would change what it drives.
+    // Whoever contends would go on driving the same after a look.
     pub fn is_settled(self) -> bool
         ensures { λ r. ⌜ r ≡ isSettled self ⌝ }
     {

@@ -2,9 +2,8 @@
 ghost use mathlib.Core.Path.{_≡_};
 ghost use mathlib.Core.Bool.{cond};
 ghost use lib.Dec.{leb};
-ghost use Rattle.cards.specs.Cards.{cardIn};
 ghost use Rattle.bus.specs.Refusal.{unsettled};
-ghost use Rattle.bus.specs.Settle.{everyListed, leadingLooks, listRefusal, neverSettles, refusedAs, acceptedAfter, settleOf};
+ghost use Rattle.bus.specs.Settle.{cardsWithin, everyListed, leadingLooks, listRefusal, neverSettles, refusedAs, acceptedAfter, settleOf};
 use crate::numbers::*;
 use crate::state::Bus;
 use cards::card_in;
@@ -29,20 +28,22 @@ fn all_cards(cards: &[u8]) -> bool
     all
 }
 
+// Numbers above 15 are no cards, and not asked about.
 fn all_in(set: u16, cards: &[u8]) -> bool
-    ensures { λ r. ⌜ r ≡ everyListed (cardIn set) (now (cards .entry)) ⌝ }
+    ensures { λ r. ⌜ r ≡ cardsWithin set (now (cards .entry)) ⌝ }
 {
     let mut all = true;
     let mut i: usize = 0;
     while i < cards.len() {
-        all = all & card_in(set, cards[i]);
+        let card = cards[i];
+        all = all & ((15 < card) | card_in(set, card));
         i += 1;
     }
     all
 }
 
 impl Bus {
-    // Refused, it hands the state back as given, with a count of 0.
+    // A refusal leaves the state alone and counts no look.
     pub fn settle(self, cards: &[u8]) -> Settlement
         ensures { λ r. ⌜ r ≡ settleOf self (now (cards .entry)) ⌝ }
     {

@@ -10,18 +10,18 @@ use cards::is_within;
 use cards::some_card;
 use phases::numbers::*;
 
-// It goes in and comes back by value.
+// Methods take it by value and hand the next one back.
 pub struct Bus {
     // The fitted cards: bit n for card n.
     pub fitted: u16,
-    // A code for each 4,096 bytes of memory: 0 absent, 1 eight-bit, 2 sixteen-bit.
+    // Page p is the 4,096 bytes from 1000h times p on: 0 for no memory there, 1 and 2 for memory of eight and of sixteen bits.
     pub pages: [u8; 16],
     pub phase: u8,
     // The contenders: bit n for card n.
     pub contenders: u16,
-    // What each card drives on the four priority lines.
+    // Each card's level on the priority lines.
     pub driven: [u8; 16],
-    // The granted card, or FF for none.
+    // The card to which the bus was granted, or FF.
     pub granted: u8,
 }
 
@@ -57,7 +57,7 @@ fn driving_fits(contenders: u16, driven: [u8; 16]) -> bool
 }
 
 impl Bus {
-    // Refused, it answers a bus with no cards and all pages absent.
+    // The bus that comes with a refusal is an empty chassis.
     pub fn setup(fitted: u16, pages: [u8; 16]) -> SetupAnswer
         ensures { λ r. ⌜ r ≡ setupOf fitted pages ⌝ }
     {

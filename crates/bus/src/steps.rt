@@ -1,5 +1,5 @@
-// What the cards and the permanent master do to the bus, a method each. Called in a phase or by a card in which the events will refuse it, a
-// method hands the state back as given.
+// What the cards and the permanent master do to the bus, a method each. Where its step may not be taken, a method hands the state back as given;
+// whether the state makes sense is for the caller to ask.
 ghost use mathlib.Core.Path.{_≡_};
 ghost use Rattle.bus.specs.Steps.{
   mayRequest,
@@ -60,7 +60,7 @@ impl Bus {
         (self.phase == ARBITRATION) & card_in(self.contenders, card)
     }
 
-    // The permanent master answers HOLD: the contender whose number the settled lines show is granted.
+    // The permanent master answers HOLD, and the bus goes to the card that the settled lines name.
     pub fn acknowledge(mut self) -> Bus
         ensures { λ r. ⌜ r ≡ acknowledged self ⌝ }
     {

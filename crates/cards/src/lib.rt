@@ -51,7 +51,7 @@ pub fn look_at(number: u8, lines: u8) -> u8
     driven
 }
 
-// Whether a card of this level would go on driving it after a look.
+// Whether a card of this level would go on driving it after a look; one that doesn't contend would, since it can't look.
 pub fn stays(contenders: u16, n: u8, level: u8, lines: u8) -> bool
     ensures { λ r. ⌜ r ≡ (not (cardIn contenders n) || eqb (look 4 n lines) level) ⌝ }
 {

@@ -2,14 +2,19 @@
 use bus::Bus;
 use bus::Settlement;
 use memory::Moved;
+use phases::numbers::*;
 
 fn main() {
+    weights();
     drivers_and_signals();
     kinds();
     printed_run();
-    refused_setup();
+    setups_and_senses();
+    out_of_turn();
     four_nine_ten();
     settles();
+    refused_settles();
+    bytes();
     words();
 }
 
@@ -40,6 +45,23 @@ fn title(text: &[u8]) {
 }
 
 // ---- The tables, by phase and by kind
+
+fn weights() {
+    title(b"weights of HOLD, pHLDA, ADSB, SDSB, DODSB, CDSB; of sMEMR, sM1, sINP, sOUT, sWO");
+    put(HOLD);
+    put(P_HLDA);
+    put(ADSB);
+    put(SDSB);
+    put(DODSB);
+    put(CDSB);
+    end_line();
+    put(S_MEMR);
+    put(S_M1);
+    put(S_INP);
+    put(S_OUT);
+    put(S_WO);
+    end_line();
+}
 
 // Phase; who drives address, status, data-out and control; signals; control outputs with no cycle.
 fn phase_row(phase: u8) {
@@ -73,18 +95,20 @@ fn memory_write(kind: u8) -> u8 {
     }
 }
 
-// Kind; status; MWRT; control outputs in the permanent master's cycle, and in transfer one.
+// Kind; status; MWRT; control outputs in the permanent master's cycle, in transfer one and in the granted card's cycle.
 fn kind_row(kind: u8) {
     put(kind);
     put(phases::status(kind));
     put(memory_write(kind));
-    put(phases::control(0, kind));
-    put(phases::control(3, kind));
+    put(phases::control(FREE, kind));
+    put(phases::control(TRANSFER_ONE, kind));
+    put(phases::control(OWNED, kind));
     end_line();
 }
 
 fn kinds() {
-    title(b"kind, status, MWRT, control outputs in phases 0 and 3");
+    title(b"kind, status, MWRT, control outputs in phases 0, 3 and 4");
+    kind_row(0x01);
     kind_row(0x05);
     kind_row(0x06);
     kind_row(0x07);
@@ -94,6 +118,8 @@ fn kinds() {
     kind_row(0x0B);
     kind_row(0x0C);
     kind_row(0x0D);
+    kind_row(0x0F);
+    kind_row(0x10);
 }
 
 // ---- The states of 01's printed run, its cycles left out
@@ -135,14 +161,63 @@ fn printed_run() {
     hand_over_and_back(b);
 }
 
-// A code of 3 on page 15: the answer, and the bus that comes with it.
-fn refused_setup() {
+// ---- Setup, sense, and methods out of turn
+
+// 1 where the state makes sense, with these parts beside fitted cards 1 and 3.
+fn sense(code: u8, phase: u8, contenders: u16, granted: u8) {
+    let bus = Bus {
+        fitted: 0x000A,
+        pages: [code; 16],
+        phase: phase,
+        contenders: contenders,
+        driven: [0; 16],
+        granted: granted,
+    };
+    put(if bus.makes_sense() { 1 } else { 0 });
+}
+
+fn setups_and_senses() {
     title(b"setup with a page code of 3: answer, then fitted, phase, granted, lines, signals");
     let made = Bus::setup(0x000A, [1, 2, 0, 0, 0, 0, 0, 0, 0, 0, 0, 0, 0, 0, 0, 3]);
     put(made.answer);
     end_line();
     put_word(made.bus.fitted);
     show_bus(made.bus);
+    title(
+        b"sense: free, arbitration, owned; a code of 3, phase 6, an unfitted contender, none, one too early, an unfitted grant",
+    );
+    sense(2, 0, 0, 0xFF);
+    sense(2, 1, 0x0008, 0xFF);
+    sense(2, 4, 0, 3);
+    sense(3, 0, 0, 0xFF);
+    sense(2, 6, 0, 0xFF);
+    sense(2, 1, 0x0004, 0xFF);
+    sense(2, 1, 0, 0xFF);
+    sense(2, 0, 0x0008, 0xFF);
+    sense(2, 4, 0, 2);
+    end_line();
+}
+
+// Cards 1 and 3 are fitted, and card 3 is granted.
+fn granted_three() -> Bus {
+    Bus::setup(0x000A, [1; 16])
+        .bus
+        .request(0x0008)
+        .look(3)
+        .acknowledge()
+}
+
+fn out_of_turn() {
+    title(
+        b"card 3 granted; begun by 1, taken too soon, given back too soon, requested, looked, reset",
+    );
+    show_bus(granted_three());
+    show_bus(granted_three().begin_transfer_one(1));
+    show_bus(granted_three().take_bus(3));
+    show_bus(granted_three().give_back(3));
+    show_bus(granted_three().request(0x0002));
+    show_bus(granted_three().look(3));
+    show_bus(granted_three().reset());
 }
 
 // ---- The looks and settles that 01 marks for proof, M1 to M8
@@ -159,7 +234,9 @@ fn round(bus: Bus, first: u8, second: u8, third: u8) -> Bus {
 }
 
 fn four_nine_ten() {
-    title(b"4, 9 and 10 contend: lines after each of four rounds, then phase and granted");
+    title(
+        b"4, 9 and 10 contend: lines after each round; phase and granted after an acknowledge, behind the third and the fourth",
+    );
     let b = round(contending(0xFFFF, 0x0610), 4, 9, 10);
     let b = round(b, 9, 10, 4);
     let b = round(b, 9, 10, 4);
@@ -189,12 +266,48 @@ fn settles() {
     show_settlement(contending(0x0002, 0x0002).settle(&[1]));
 }
 
-// ---- Words over pages of either width
+// Card 0's lines are at 0, and it is granted all the same. The others are refused: 02, 03, 05, 06 and 07, with the state as it was.
+fn refused_settles() {
+    title(b"card 0 alone, acknowledged; then settle refused");
+    show_bus(contending(0x0001, 0x0001).acknowledge());
+    let senseless = Bus {
+        fitted: 0x0003,
+        pages: [3; 16],
+        phase: ARBITRATION,
+        contenders: 0x0002,
+        driven: [0; 16],
+        granted: 0xFF,
+    };
+    show_settlement(senseless.settle(&[16]));
+    show_settlement(contending(0x0003, 0x0002).settle(&[2, 16]));
+    show_settlement(contending(0x0003, 0x0002).settle(&[1, 2]));
+    show_settlement(granted_three().settle(&[1]));
+    show_settlement(contending(0x0003, 0x0002).settle(&[1, 0]));
+}
+
+// ---- Bytes, and words over pages of either width
 
 // Cycles and datum.
-fn show_moved(changed: Moved) {
-    put(changed.cycles);
-    put_word(changed.datum);
+fn show_moved(moved: Moved) {
+    put(moved.cycles);
+    put_word(moved.datum);
+    end_line();
+}
+
+fn bytes() {
+    title(
+        b"bytes: 56 written at 3 and read there, beyond the end; a word at an odd address, and at the last byte",
+    );
+    let mut m: [u8; 5] = [0xEE; 5];
+    show_moved(memory::byte_write(&mut m, 3, 0x56));
+    show_moved(memory::byte_read(&m, 3));
+    show_moved(memory::byte_read(&m, 5));
+    show_moved(memory::word_write(&mut m, 1, 0x1234, true));
+    show_moved(memory::word_read(&m, 4, false));
+    put(m[1]);
+    put(m[2]);
+    put(m[3]);
+    put(m[4]);
     end_line();
 }
 

@@ -1,8 +1,10 @@
 -- The cards passed are in the set.
 use Prim.Native.Nat.{_≤_, _-_}
-use mathlib.Core.Path.{_≡_}
+use mathlib.Core.Path.{_≡_, ap}
+use mathlib.Core.Bool.{Bool, _||_}
 use native.Mathlib.Omega.{arith}
 use borrow.Author.Needs.{needs}
+use lib.Dec.{ltb}
 use lib.ListN.{length, getD}
 use Rattle.words.specs.Below.{allBelow}
 use Rattle.words.proofs.BelowLaws.{all-start, all-next, at-bound}
@@ -13,7 +15,7 @@ use Rattle.bus.proofs.settle.all_in.Tie as tie
 
 abbrev Inv-loop : tie.InvT-loop
 Inv-loop set cards all₀ i₀ all i =
-    (i ≤ length cards) × (all ≡ allBelow (λ k. cardIn set (getD cards k 0)) i)
+    (i ≤ length cards) × (all ≡ allBelow (λ k. ltb 15 (getD cards k 0) || cardIn set (getD cards k 0)) i)
 
 abbrev μ-loop : tie.MeasureT-loop
 μ-loop set cards all₀ i₀ all i = length cards - i
@@ -30,5 +32,7 @@ all-in-spec =
     (λ c κs. search needs)
     (λ c. omega arith)
     (λ c. omega arith)
-    (λ c. (omega arith, all-next _ _ (c .before .before .before .loop .inv .1) (c .card-in .ensures)))
+    (λ c.
+    let card = getD (c .before .before .before .before .before .args .cards .now) (c .before .before .before .loop .i) 0 in
+    (omega arith, all-next _ _ (c .before .before .before .loop .inv .1) (ap (λ (b : Bool). ltb 15 card || b) (c .card-in .ensures))))
     (λ c. at-bound (allBelow _) (c .before .loop .inv .1) (omega arith) (omega arith)))
