@@ -109,7 +109,7 @@ pub record ZeroAndOwnBits : Type 0 where
   pub zeroSettled : isSettled (requested (freeBus 0x0003 eightBit) 0x0001) ≡ true
   pub zeroLines : linesOf (requested (freeBus 0x0003 eightBit) 0x0001) ≡ 0
   pub zeroGranted : acknowledged (requested (freeBus 0x0003 eightBit) 0x0001) ≡ stateOf 0x0003 eightBit Phase.granted 0 silent 0
-  -- it sees its own 2, and drives 0 after one look and 1 after two
+  -- it sees its own 2: its first look silences it, its second brings 1
   pub once : getD (lookedBy stray 1 .driven) 1 0 ≡ 0
   pub twice : getD (lookedBy (lookedBy stray 1) 1 .driven) 1 0 ≡ 1
 

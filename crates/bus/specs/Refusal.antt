@@ -1,4 +1,4 @@
--- The answers that the state and settle give, as 01 numbers them in "Refusals and their order".
+-- The answers of setup and of settle, as 01 numbers them in "Refusals and their order".
 use Prim.Native.Nat.{ℕ}
 
 abbrev pub accepted : ℕ

@@ -9,7 +9,7 @@ use crate::state::Bus;
 use cards::card_in;
 use phases::numbers::*;
 
-// What settle answers: the refusal, or 0 with the settled state and the number of looks taken.
+// What settle answers: the refusal, or 0 with the settled state and how many looks that took.
 pub struct Settlement {
     pub answer: u8,
     pub bus: Bus,

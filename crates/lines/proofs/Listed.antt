@@ -1,4 +1,4 @@
--- The promises for contenders given as a list of distinct numbers: those for any arbitration, at this one.
+-- The promises where a list names the contenders by their numbers: those for any arbitration, at this one.
 use mathlib.Core.Path.{refl}
 use mathlib.Core.Bool.{true≢false}
 use mathlib.Core.List.{List, _∷_}

@@ -70,7 +70,7 @@ pub record LoneCard : Type 0 where
   -- card 0's silent lines are settled as they are, and card 10 drives its whole number at silent lines
   pub cardZero : SettledAt (alone 0) silent 0
   pub whole : SettledAt (alone 10) (afterLooks (alone 10) silent (10 ∷ [])) 10
-  -- driving 2, which it should not, card 1 takes that 2 for a higher card's: it drives 0 after one look, and its number after two
+  -- driving 2, which it should not, card 1 takes that 2 for a higher card's: its first look silences it, its second brings its number
   pub strayOnce : getD (afterLooks (alone 1) (0 ∷ 2 ∷ replicate 14 0) (1 ∷ [])) 1 0 ≡ 0
   pub strayTwice : SettledAt (alone 1) (afterLooks (alone 1) (0 ∷ 2 ∷ replicate 14 0) (1 ∷ 1 ∷ [])) 1
   -- what an idle card drives is on no line, its look changes nothing, and it is not the highest contender

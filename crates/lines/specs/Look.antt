@@ -3,8 +3,8 @@ use Prim.Native.Nat.{ℕ, zero, suc, _+_, _^_}
 use mathlib.Core.Bool.{cond}
 use Rattle.words.specs.Bits.{bitAt}
 
--- `look w number lines`: going down from the highest of the w places, the card drives each place where its number has a one; but at the
--- first place where the lines show 1 and its number has 0 it stops, and drives nothing below.
+-- `look w number lines`: from the highest of the w places down, ones of the number are driven, until a place comes with a one on the lines and a
+-- zero in the number. There the card has been outbid: that place and all below it stay undriven.
 unfoldable pub look : ℕ → ℕ → ℕ → ℕ
 look zero number lines = 0
 look (suc k) number lines =

@@ -45,7 +45,7 @@ pub fn byte_write(m: &mut [u8], at: usize, b: u8) -> Moved
     }
 }
 
-// ---- The word's step: it is handed the word's two bytes and sees no others.
+// ---- A word's cycle: it is lent that pair alone.
 
 // One cycle, both bytes at once.
 fn get_both(pair: &[u8]) -> Moved

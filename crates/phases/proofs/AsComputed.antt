@@ -7,6 +7,8 @@ use Rattle.phases.specs.Examples.{DriverTable, SignalTable, StatusTable,
 
 pub driver-table : DriverTable
 driver-table = record {
+  groups = refl;
+  codes = refl;
   free = refl;
   arbitration = refl;
   granted = refl;

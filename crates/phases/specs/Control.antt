@@ -1,4 +1,4 @@
--- The five control outputs, and the write strobe that is made of one of them (000, 2.2.5, Table 7, 2.7.4 and 2.7.5).
+-- The five control outputs, and MWRT, which is made of one of them (000, 2.2.5, Table 7, 2.7.4 and 2.7.5).
 use Prim.Native.Nat.{ℕ, _+_}
 use mathlib.Core.Bool.{Bool, cond, not, _&&_, _||_}
 use mathlib.Core.List.{[], _∷_}
@@ -9,7 +9,7 @@ use Rattle.phases.specs.Kind as Kind
 use Rattle.phases.specs.Signal.{pHLDA, isOn, isAcknowledged}
 use Rattle.phases.specs.Status.{sOUT}
 
--- ---- Their weights in a byte of their own (house): pHLDA keeps the weight that it has among the signals
+-- ---- Their weights in a byte of their own, which 01 doesn't give: pHLDA keeps the weight that it has among the signals
 
 abbrev pub pSYNC : ℕ
 pSYNC = 0x01
@@ -42,7 +42,7 @@ unfoldable pub strobeOf : ℕ → ℕ
 strobeOf kind = cond (isReading kind) pDBIN (cond (isWriting kind) pWR 0)
 
 -- The outputs that are true in a phase, with a cycle of this kind in it. The model has no time within a cycle, so pSYNC and pSTVAL, which mark
--- its start, are never true (house).
+-- its start, are never true.
 unfoldable pub controlIn : ℕ → ℕ → ℕ
 controlIn phase kind = cond (allowsCycles phase) (strobeOf kind) 0 + cond (isAcknowledged phase) pHLDA 0
 

@@ -16,6 +16,8 @@ abbrev pub driversIn : ℕ → List ℕ
 driversIn phase = driverOf phase address ∷ driverOf phase statusLines ∷ driverOf phase dataOut ∷ driverOf phase control ∷ []
 
 pub record DriverTable : Type 0 where
+  pub groups : address ∷ statusLines ∷ dataOut ∷ control ∷ [] ≡ 0 ∷ 1 ∷ 2 ∷ 3 ∷ []
+  pub codes : noDriver ∷ permanent ∷ card ∷ both ∷ [] ≡ 0 ∷ 1 ∷ 2 ∷ 3 ∷ []
   pub free : driversIn Phase.free ≡ permanent ∷ permanent ∷ permanent ∷ permanent ∷ []
   pub arbitration : driversIn Phase.arbitration ≡ permanent ∷ permanent ∷ permanent ∷ permanent ∷ []
   pub granted : driversIn Phase.granted ≡ permanent ∷ permanent ∷ permanent ∷ permanent ∷ []

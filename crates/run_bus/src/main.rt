@@ -1,4 +1,4 @@
-// Prints the tables of the bus and runs of its methods, in hexadecimal. The file stdout beside src/ holds what 01 and 000 say.
+// Prints the tables of the bus and runs of its methods, in hexadecimal. The file stdout was written by hand, from the tables and runs of 01.
 use bus::Bus;
 use bus::Settlement;
 use memory::Moved;
