@@ -1,13 +1,14 @@
 -- The runs on small states, by computation.
 use mathlib.Core.Path.{refl}
 use Rattle.words.specs.Below.{allBelow, orBelow}
+use Rattle.words.specs.Among.{everyListed}
 use Rattle.words.specs.First.{firstOf, leastBelow}
 use Rattle.lines.specs.Look.{look}
 use Rattle.lines.specs.Arbitration.{everyContender, shown, looked, settled, afterLook}
 use Rattle.cards.specs.Cards.{someCard, isWithin}
-use Rattle.bus.specs.Sense.{pagesKnown, drivingFits, makesSense}
+use Rattle.bus.specs.Sense.{drivingFits, makesSense}
 use Rattle.bus.specs.Steps.{afterLooksOf}
-use Rattle.bus.specs.Settle.{settledAfter, leadingLooks, neverSettles, everyListed, settleRefusal, settleOf}
+use Rattle.bus.specs.Settle.{settledAfter, leadingLooks, neverSettles, settleRefusal, settleOf}
 use Rattle.bus.specs.Examples.{RoundsOnTheBus, SettleOnTheBus, SettleRefusals, PrintedRun, ZeroAndOwnBits, OutOfTurn, SenseCases}
 
 pub rounds-on-the-bus : RoundsOnTheBus
@@ -23,7 +24,7 @@ rounds-on-the-bus = record {
 }
 
 pub settle-on-the-bus : SettleOnTheBus
-unfolding allBelow orBelow look everyContender shown looked settled afterLook someCard isWithin afterLooksOf firstOf leastBelow pagesKnown drivingFits makesSense settledAfter leadingLooks neverSettles everyListed settleRefusal settleOf
+unfolding allBelow orBelow look everyContender shown looked settled afterLook someCard isWithin afterLooksOf firstOf leastBelow everyListed drivingFits makesSense settledAfter leadingLooks neverSettles settleRefusal settleOf
 settle-on-the-bus = record {
   twelve = refl;
   twelveAccepted = refl;
@@ -36,7 +37,7 @@ settle-on-the-bus = record {
 }
 
 pub settle-refusals : SettleRefusals
-unfolding allBelow orBelow look everyContender shown looked settled afterLook someCard isWithin afterLooksOf firstOf leastBelow pagesKnown drivingFits makesSense settledAfter leadingLooks neverSettles everyListed settleRefusal settleOf
+unfolding allBelow orBelow look everyContender shown looked settled afterLook someCard isWithin afterLooksOf firstOf leastBelow everyListed drivingFits makesSense settledAfter leadingLooks neverSettles settleRefusal settleOf
 settle-refusals = record {
   senseless = refl;
   malformed = refl;
@@ -47,7 +48,7 @@ settle-refusals = record {
 }
 
 pub printed-run : PrintedRun
-unfolding allBelow orBelow look everyContender shown looked settled afterLook someCard isWithin afterLooksOf pagesKnown drivingFits makesSense
+unfolding allBelow orBelow look everyContender shown looked settled afterLook someCard isWithin afterLooksOf everyListed drivingFits makesSense
 printed-run = record {
   atFirst = refl;
   asked = refl;
@@ -75,7 +76,7 @@ zero-and-own-bits = record {
 }
 
 pub out-of-turn : OutOfTurn
-unfolding allBelow orBelow look everyContender shown looked settled afterLook someCard isWithin afterLooksOf pagesKnown drivingFits makesSense
+unfolding allBelow orBelow look everyContender shown looked settled afterLook someCard isWithin afterLooksOf everyListed drivingFits makesSense
 out-of-turn = record {
   requestNobody = refl;
   requestUnfitted = refl;
@@ -91,7 +92,7 @@ out-of-turn = record {
 }
 
 pub sense-cases : SenseCases
-unfolding allBelow orBelow look everyContender shown looked settled afterLook someCard isWithin afterLooksOf pagesKnown drivingFits makesSense
+unfolding allBelow orBelow look everyContender shown looked settled afterLook someCard isWithin afterLooksOf everyListed drivingFits makesSense
 sense-cases = record {
   atRest = refl;
   contending = refl;

@@ -11,6 +11,7 @@ use lib.ListN.{length, getD}
 use borrow.Author.Tests.{leb-true, le-leb, lt-leb, eqb-true, eqb-false, eq-eqb, ne-eqb, not-true}
 use Rattle.words.proofs.TestLaws.{true-or-false, all-three, then-of, else-of, of-then, of-else}
 use Rattle.words.proofs.BelowLaws.{all-at, all-of}
+use Rattle.words.proofs.ListLaws.{every-at, every-of}
 use Rattle.phases.specs.Phase as Phase
 use Rattle.cards.specs.Cards.{cardIn, someCard, isWithin}
 use Rattle.bus.specs.State.{nobody}
@@ -52,11 +53,11 @@ module _ (bus : Bus) where
   drives e n h = leb-true _ _ (all-at _ 16 (six e .1 .1 .0) n h)
 
   sensible : makesSense bus ≡ true → Sensible bus
-  unfolding pagesKnown arbitrates held
+  unfolding arbitrates held
   sensible e = record {
     sixteenPages = eqb-true _ _ (sizes .0);
     sixteenLevels = eqb-true _ _ (sizes .1);
-    codes = λ p h. leb-true _ _ (all-at _ 16 (six e .0 .1 .0) p h);
+    codes = λ p h. leb-true _ _ (every-at (λ code. leb code 2) (bus .pages) (six e .0 .1 .0) p (subst (λ (n : ℕ). p < n) (sym (eqb-true _ _ (sizes .0))) h));
     phases = leb-true _ _ (six e .0 .1 .1);
     contendersFitted = within-at (bus .contenders) (bus .fitted) (contention .0);
     someInArbitration = λ a. some-at (bus .contenders) (then-of arbitrates (someCard (bus .contenders)) (contention .1 .0) (eq-eqb _ _ a));
@@ -91,11 +92,11 @@ module _ (bus : Bus) where
       also {x} {y} ex ey = and-eq-true-iff x y .1 (ex, ey)
 
   makes-sense : Sensible bus → makesSense bus ≡ true
-  unfolding pagesKnown drivingFits arbitrates held
+  unfolding drivingFits arbitrates held
   makes-sense s =
       together
       (and-eq-true-iff _ _ .1 (eq-eqb _ _ (s .sixteenPages), eq-eqb _ _ (s .sixteenLevels)))
-      (all-of _ 16 (λ p h. le-leb _ _ (s .codes p h)))
+      (every-of (λ code. leb code 2) (bus .pages) (λ p h. le-leb _ _ (s .codes p (subst (λ (n : ℕ). p < n) (s .sixteenPages) h))))
       (le-leb _ _ (s .phases))
       (and-eq-true-iff _ _ .1 (and-eq-true-iff _ _ .1 (within-of _ _ (s .contendersFitted), of-then arbitrates _ some), of-else arbitrates _ none))
       (all-of _ 16 (λ n h. le-leb _ _ (drives-at n h (true-or-false (cardIn (bus .contenders) n)))))

@@ -1,16 +1,16 @@
 -- Setup, and a request in transfer two.
 use Prim.Native.Nat.{ℕ, _<_, _≤_}
-use mathlib.Core.Path.{_≡_, refl, ap}
+use mathlib.Core.Path.{_≡_, refl, sym, subst, ap}
 use mathlib.Core.Logic.{_⊎_, inl, inr, ⊎-elim}
 use mathlib.Core.Bool.{true, false}
 use mathlib.Core.List.{List}
 use native.Mathlib.Nat.{le-of-eq, le-trans}
 use native.Mathlib.Omega.{arith}
-use lib.Dec.{eqb, lit≤}
-use lib.ListN.{getD, getD-replicate, replicate}
+use lib.Dec.{eqb, leb, lit≤}
+use lib.ListN.{length, getD, getD-replicate, replicate}
 use borrow.Author.Tests.{leb-true, le-leb}
 use Rattle.words.proofs.TestLaws.{true-or-false}
-use Rattle.words.proofs.BelowLaws.{all-at, all-of}
+use Rattle.words.proofs.ListLaws.{every-at, every-of}
 use Rattle.phases.specs.Phase as Phase
 use Rattle.phases.specs.Signal.{HOLD, pHLDA, isOn, signalsIn}
 use Rattle.bus.specs.Sense.{pagesKnown, makesSense}
@@ -20,13 +20,11 @@ use Rattle.bus.specs.Promises.{SetupRefuses, SetupAccepts, SetupMakesSen
 use Rattle.bus.proofs.SenseLaws.{sense-means}
 use Rattle.bus.proofs.Kept.{free-sense}
 
-codes-at : (pages : List ℕ) → pagesKnown pages ≡ true → (p : ℕ) → p < 16 → getD pages p 0 ≤ 2
-unfolding pagesKnown
-codes-at pages e p h = leb-true _ _ (all-at _ 16 e p h)
+codes-at : (pages : List ℕ) → pagesKnown pages ≡ true → (p : ℕ) → p < length pages → getD pages p 0 ≤ 2
+codes-at pages e p h = leb-true _ _ (every-at (λ code. leb code 2) pages e p h)
 
-codes-of : (pages : List ℕ) → ((p : ℕ) → p < 16 → getD pages p 0 ≤ 2) → pagesKnown pages ≡ true
-unfolding pagesKnown
-codes-of pages each = all-of _ 16 (λ p h. le-leb _ _ (each p h))
+codes-of : (pages : List ℕ) → ((p : ℕ) → p < length pages → getD pages p 0 ≤ 2) → pagesKnown pages ≡ true
+codes-of pages each = every-of (λ code. leb code 2) pages (λ p h. le-leb _ _ (each p h))
 
 pub setup-refuses : SetupRefuses
 setup-refuses fitted pages p h above = rw unknown (refl, refl)
@@ -41,7 +39,7 @@ pub setup-makes-sense : SetupMakesSense
 setup-makes-sense fitted pages size = go (true-or-false (pagesKnown pages))
   where
     go : (pagesKnown pages ≡ true) ⊎ (pagesKnown pages ≡ false) → makesSense (setupOf fitted pages .bus) ≡ true
-    go (inl t) = rw t (sense-means (freeBus fitted pages) .1 (free-sense fitted pages size (codes-at pages t)))
+    go (inl t) = rw t (sense-means (freeBus fitted pages) .1 (free-sense fitted pages size (λ p h. codes-at pages t p (subst (λ (n : ℕ). p < n) (sym size) h))))
     go (inr f) = rw f (sense-means emptyBus .1 (free-sense 0 (replicate 16 0) refl (λ p h. le-trans (le-of-eq (getD-replicate 16 p 0 0 h)) (lit≤ tt))))
 
 -- ---- HOLD false, and the bus not free

@@ -53,13 +53,13 @@ CardsAndPagesKept = (method : Method) (bus : Bus) → (after method bus .fitted 
 -- Setup refuses exactly where a code is above 2, and then answers the bus without cards and pages;
 abbrev pub SetupRefuses : Type 0
 SetupRefuses =
-    (fitted : ℕ) (pages : List ℕ) (p : ℕ) → p < 16 → 2 < getD pages p 0
+    (fitted : ℕ) (pages : List ℕ) (p : ℕ) → p < length pages → 2 < getD pages p 0
     → (setupOf fitted pages .answer ≡ Refusal.badPage) × (setupOf fitted pages .bus ≡ emptyBus)
 
 -- otherwise it answers a free bus with these cards and pages;
 abbrev pub SetupAccepts : Type 0
 SetupAccepts =
-    (fitted : ℕ) (pages : List ℕ) → ((p : ℕ) → p < 16 → getD pages p 0 ≤ 2)
+    (fitted : ℕ) (pages : List ℕ) → ((p : ℕ) → p < length pages → getD pages p 0 ≤ 2)
     → (setupOf fitted pages .answer ≡ Refusal.accepted) × (setupOf fitted pages .bus ≡ freeBus fitted pages)
 
 -- and either makes sense.
@@ -99,7 +99,7 @@ SettledOneWay =
     (bus other : Bus) → makesSense bus ≡ true → makesSense other ≡ true → bus .contenders ≡ other .contenders
     → isSettled bus ≡ true → isSettled other ≡ true → bus .driven ≡ other .driven
 
--- and settled lines show its number.
+-- and settled lines show the highest contender's number.
 abbrev pub SettledShowIt : Type 0
 SettledShowIt =
     (bus : Bus) → makesSense bus ≡ true → bus .phase ≡ Phase.arbitration → isSettled bus ≡ true → Highest (arbitrationOf bus) (linesOf bus)

@@ -5,6 +5,7 @@ use mathlib.Core.List.{List}
 use lib.Dec.{eqb, leb}
 use lib.ListN.{length, getD}
 use Rattle.words.specs.Below.{allBelow}
+use Rattle.words.specs.Among.{everyListed}
 use Rattle.phases.specs.Phase as Phase
 use Rattle.cards.specs.Cards.{cardIn, someCard, isWithin}
 use Rattle.bus.specs.State.{nobody}
@@ -15,8 +16,8 @@ abbrev pub hasSixteen : Bus → Bool
 hasSixteen bus = eqb (length (bus .pages)) 16 && eqb (length (bus .driven)) 16
 
 -- every page has one of the codes 0, 1 and 2
-unfoldable pub pagesKnown : List ℕ → Bool
-pagesKnown pages = allBelow (λ p. leb (getD pages p 0) 2) 16
+abbrev pub pagesKnown : List ℕ → Bool
+pagesKnown pages = everyListed (λ code. leb code 2) pages
 
 -- only fitted cards contend; in arbitration someone does, and otherwise nobody
 abbrev pub contentionFits : Bus → Bool

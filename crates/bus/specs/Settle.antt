@@ -3,8 +3,9 @@ use Prim.Native.Nat.{ℕ, suc}
 use mathlib.Core.Bool.{Bool, cond, not, _||_}
 use mathlib.Core.List.{List, [], _∷_, _++_}
 use lib.Dec.{eqb, leb, ltb}
-use lib.ListN.{length, getD, take}
+use lib.ListN.{length, take}
 use Rattle.words.specs.Below.{allBelow}
+use Rattle.words.specs.Among.{everyListed}
 use Rattle.words.specs.First.{Reason, reason, firstOf, leastBelow}
 use Rattle.phases.specs.Phase as Phase
 use Rattle.bus.specs.Refusal as Refusal
@@ -30,10 +31,6 @@ unfoldable pub neverSettles : Bus → List ℕ → Bool
 neverSettles bus cards = allBelow (λ n. not (settledAfter bus cards n)) (suc (length cards))
 
 -- ---- The refusals
-
--- the test holds of every number in the list
-unfoldable pub everyListed : (ℕ → Bool) → List ℕ → Bool
-everyListed test cards = allBelow (λ i. test (getD cards i 0)) (length cards)
 
 -- 02
 abbrev pub isSenseless : Bus → Bool

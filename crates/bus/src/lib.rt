@@ -1,4 +1,5 @@
 // The bus as a value: its state, what each method does to it, and settle.
+mod lists;
 pub mod numbers;
 mod priority;
 mod settle;

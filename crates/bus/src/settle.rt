@@ -1,12 +1,12 @@
 // Settle: looks in list order until the lines are settled.
 ghost use mathlib.Core.Path.{_≡_};
 ghost use mathlib.Core.Bool.{cond};
-ghost use lib.Dec.{leb};
 ghost use Rattle.bus.specs.Refusal.{unsettled};
-ghost use Rattle.bus.specs.Settle.{cardsWithin, everyListed, leadingLooks, listRefusal, neverSettles, refusedAs, acceptedAfter, settleOf};
+ghost use Rattle.bus.specs.Settle.{leadingLooks, listRefusal, neverSettles, refusedAs, acceptedAfter, settleOf};
+use crate::lists::all_at_most;
+use crate::lists::all_in;
 use crate::numbers::*;
 use crate::state::Bus;
-use cards::card_in;
 use phases::numbers::*;
 
 // What settle answers: the refusal, or 0 with the settled state and how many looks that took.
@@ -16,30 +16,11 @@ pub struct Settlement {
     pub looks: usize,
 }
 
-fn all_cards(cards: &[u8]) -> bool
-    ensures { λ r. ⌜ r ≡ everyListed (λ card. leb card 15) (now (cards .entry)) ⌝ }
+// The number where the reason applies, and else what the later reasons give.
+fn first(number: u8, applies: bool, later: u8) -> u8
+    ensures { λ r. ⌜ r ≡ cond applies number later ⌝ }
 {
-    let mut all = true;
-    let mut i: usize = 0;
-    while i < cards.len() {
-        all = all & (cards[i] <= 15);
-        i += 1;
-    }
-    all
-}
-
-// Numbers above 15 are no cards, and not asked about.
-fn all_in(set: u16, cards: &[u8]) -> bool
-    ensures { λ r. ⌜ r ≡ cardsWithin set (now (cards .entry)) ⌝ }
-{
-    let mut all = true;
-    let mut i: usize = 0;
-    while i < cards.len() {
-        let card = cards[i];
-        all = all & ((15 < card) | card_in(set, card));
-        i += 1;
-    }
-    all
+    if applies { number } else { later }
 }
 
 impl Bus {
@@ -63,22 +44,11 @@ impl Bus {
     fn list_refusal(self, cards: &[u8]) -> u8
         ensures { λ r. ⌜ r ≡ listRefusal self (now (cards .entry)) ⌝ }
     {
-        if !self.makes_sense() {
-            return SENSELESS;
-        }
-        if !all_cards(cards) {
-            return MALFORMED;
-        }
-        if !all_in(self.fitted, cards) {
-            return NOT_FITTED;
-        }
-        if self.phase != ARBITRATION {
-            return WRONG_PHASE;
-        }
-        if !all_in(self.contenders, cards) {
-            return NOT_ITS_TURN;
-        }
-        ACCEPTED
+        let idle = first(NOT_ITS_TURN, !all_in(self.contenders, cards), ACCEPTED);
+        let elsewhere = first(WRONG_PHASE, !(self.phase == ARBITRATION), idle);
+        let unfitted = first(NOT_FITTED, !all_in(self.fitted, cards), elsewhere);
+        let malformed = first(MALFORMED, !all_at_most(15, cards), unfitted);
+        first(SENSELESS, !self.makes_sense(), malformed)
     }
 
     // The looks themselves.

@@ -1,8 +1,9 @@
 // The state of the bus, whether it makes sense, and setup.
 ghost use mathlib.Core.Path.{_≡_};
-ghost use Rattle.bus.specs.Sense.{pagesKnown, contentionFits, drivingFits, grantFits, makesSense};
+ghost use Rattle.bus.specs.Sense.{contentionFits, drivingFits, grantFits, makesSense};
 ghost use Rattle.bus.specs.State.{freeBus};
 ghost use Rattle.bus.specs.Setup.{setupOf};
+use crate::lists::all_at_most;
 use crate::numbers::*;
 use cards::card_in;
 use cards::counted;
@@ -31,18 +32,6 @@ pub struct SetupAnswer {
     pub bus: Bus,
 }
 
-fn pages_known(pages: [u8; 16]) -> bool
-    ensures { λ r. ⌜ r ≡ pagesKnown pages ⌝ }
-{
-    let mut known = true;
-    let mut p: usize = 0;
-    while p < 16 {
-        known = known & (pages[p] <= 2);
-        p += 1;
-    }
-    known
-}
-
 // The other cards drive nothing, and the contenders no more than four lines show.
 fn driving_fits(contenders: u16, driven: [u8; 16]) -> bool
     ensures { λ r. ⌜ r ≡ drivingFits contenders driven ⌝ }
@@ -61,7 +50,7 @@ impl Bus {
     pub fn setup(fitted: u16, pages: [u8; 16]) -> SetupAnswer
         ensures { λ r. ⌜ r ≡ setupOf fitted pages ⌝ }
     {
-        if pages_known(pages) {
+        if all_at_most(2, &pages) {
             SetupAnswer {
                 answer: ACCEPTED,
                 bus: Bus::freed(fitted, pages),
@@ -92,7 +81,7 @@ impl Bus {
     {
         let pages = self.pages;
         let driven = self.driven;
-        pages_known(pages)
+        all_at_most(2, &pages)
             & (self.phase <= TRANSFER_TWO)
             & self.contention_fits()
             & driving_fits(self.contenders, driven)

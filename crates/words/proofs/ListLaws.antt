@@ -10,8 +10,9 @@ use lib.Dec.{eqb}
 use lib.ListN.{length, getD, set}
 use lib.Seq.{getD-set-same, getD-set-other, set-out}
 use borrow.Author.Tests.{eqb-true, eq-eqb, ne-eqb}
-use Rattle.words.specs.Among.{isAmong}
+use Rattle.words.specs.Among.{isAmong, everyListed}
 use Rattle.words.proofs.TestLaws.{either-of}
+use Rattle.words.proofs.BelowLaws.{all-at, all-of}
 
 -- nobody is in the empty list, and who is in a longer one is its head or in its tail
 pub among-none : (n : ℕ) → isAmong n [] ≡ true → ⊥
@@ -21,6 +22,15 @@ among-none n e = false≢true e
 pub among-cases : (n x : ℕ) (xs : List ℕ) → isAmong n (x ∷ xs) ≡ true → (n ≡ x) ⊎ (isAmong n xs ≡ true)
 unfolding isAmong
 among-cases n x xs e = ⊎-elim (λ t. inl (eqb-true n x t)) inr (either-of (eqb n x) (isAmong n xs) e)
+
+-- what is asked of every number in a list is asked of each of them
+pub every-at : (test : ℕ → Bool) (numbers : List ℕ) → everyListed test numbers ≡ true → (i : ℕ) → i < length numbers → test (getD numbers i 0) ≡ true
+unfolding everyListed
+every-at test numbers e i h = all-at _ (length numbers) e i h
+
+pub every-of : (test : ℕ → Bool) (numbers : List ℕ) → ((i : ℕ) → i < length numbers → test (getD numbers i 0) ≡ true) → everyListed test numbers ≡ true
+unfolding everyListed
+every-of test numbers each = all-of _ (length numbers) each
 
 -- the entry at j once the one at i has been set
 pub getD-set : (l : List ℕ) (i j v : ℕ) → i < length l → getD (set l i v) j 0 ≡ cond (eqb j i) v (getD l j 0)

@@ -43,6 +43,15 @@ pub of-then : (a b : Bool) → (a ≡ true → b ≡ true) → (not a || b) ≡ 
 of-then true b h = h refl
 of-then false b h = refl
 
+-- what is picked by a test that came out one way or the other
+pub then-pick : {A : Type 0} {b : Bool} {x y : A} (z : A) → b ≡ true → x ≡ y → x ≡ cond b y z
+then-pick {b = true} z t e = e
+then-pick {b = false} z t e = absurd (true≢false (sym t))
+
+pub else-pick : {A : Type 0} {b : Bool} {x z : A} (y : A) → b ≡ false → x ≡ z → x ≡ cond b y z
+else-pick {b = true} y f e = absurd (true≢false f)
+else-pick {b = false} y f e = e
+
 -- a test that failed once fails again
 pub cond-again : (b : Bool) {A : Type 0} (x y z : A) → cond b x (cond b y z) ≡ cond b x z
 cond-again true x y z = refl

@@ -1,9 +1,15 @@
--- Whether a number stands in a list.
+-- Whether a number stands in a list, and what is asked of every number in it.
 use Prim.Native.Nat.{ℕ}
 use mathlib.Core.Bool.{Bool, false, _||_}
 use mathlib.Core.List.{List, [], _∷_}
 use lib.Dec.{eqb}
+use lib.ListN.{length, getD}
+use Rattle.words.specs.Below.{allBelow}
 
 unfoldable pub isAmong : ℕ → List ℕ → Bool
 isAmong n [] = false
 isAmong n (x ∷ xs) = eqb n x || isAmong n xs
+
+-- the test holds of every number in the list
+unfoldable pub everyListed : (ℕ → Bool) → List ℕ → Bool
+everyListed test numbers = allBelow (λ i. test (getD numbers i 0)) (length numbers)

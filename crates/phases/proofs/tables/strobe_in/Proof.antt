@@ -1,5 +1,7 @@
 -- By whether the phase allows cycles.
+use mathlib.Core.Path.{refl}
 use borrow.Author.Needs.{needs}
+use Rattle.words.proofs.TestLaws.{then-pick, else-pick}
 use Rattle.phases.proofs.tables.strobe_in.Statement.{statement}
 use Rattle.phases.proofs.tables.strobe_in.Tie as tie
 
@@ -8,5 +10,5 @@ strobe-in-spec =
     tie.close
     (tie.spec
     (λ c κs. search needs)
-    (λ c. rw (c .before .if1 .taken) (c .strobe .ensures))
-    (λ c. rw (c .if1 .left)))
+    (λ c. then-pick _ (c .before .if1 .taken) (c .strobe .ensures))
+    (λ c. else-pick _ (c .if1 .left) refl))

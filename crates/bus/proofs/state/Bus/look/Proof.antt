@@ -1,7 +1,11 @@
 -- By whether the card may look.
-use mathlib.Core.Path.{sym, _∙_}
+use Prim.Native.Nat.{ℕ}
+use mathlib.Core.Path.{sym, ap, _∙_}
 use borrow.Author.Needs.{needs}
+use lib.ListN.{set}
+use Rattle.lines.specs.Look.{look}
 use Rattle.lines.specs.Arbitration.{looked}
+use Rattle.bus.specs.State.{changed}
 use Rattle.bus.proofs.LookRuns.{looks-below}
 use Rattle.bus.proofs.state.Bus.look.Statement.{statement}
 use Rattle.bus.proofs.state.Bus.look.Tie as tie
@@ -17,5 +21,10 @@ look-spec =
     (λ c.
     looks-below (c .before .before .before .before .args .t1) (c .before .before .before .before .args .card)
     (sym (c .before .before .before .may-look .ensures) ∙ c .before .before .if1 .taken))
-    (λ c. rw (sym (c .before .before .before .may-look .ensures) ∙ c .before .before .if1 .taken, c .look-at .ensures, c .before .lines .ensures))
+    (λ c.
+    let bus = c .before .before .before .before .args .t1 in
+    let card = c .before .before .before .before .args .card in
+    rw (sym (c .before .before .before .may-look .ensures) ∙ c .before .before .if1 .taken)
+    (ap (λ (level : ℕ). changed bus (bus .phase) (bus .contenders) (set (bus .driven) card level) (bus .granted))
+    (c .look-at .ensures ∙ ap (look 4 card) (c .before .lines .ensures))))
     (λ c. rw (sym (c .before .may-look .ensures) ∙ c .if1 .left)))

@@ -8,15 +8,16 @@ pub makes-sense-spec : {M : Type 1} → statement M
 makes-sense-spec =
     tie.close
     (tie.spec
+    (λ c. search needs)
     (λ c κs. search needs)
     (λ c κs. search needs)
     (λ c κs. search needs)
     (λ c κs. search needs)
     (λ c.
     rw (
-      c .before .before .before .before .pages-known .ensures,
+      c .before .before .before .before .all-at-most .ensures,
       c .before .before .contention-fits .ensures,
       c .before .driving-fits .ensures,
       c .grant-fits .ensures,
     )
-    (sense-of-arrays (c .before .before .before .before .before .before .before .args .self) (search needs) (search needs))))
+    (sense-of-arrays (c .before .before .before .before .before .before .before .before .args .self) (search needs) (search needs))))

@@ -8,8 +8,9 @@ pub setup-spec : {M : Type 1} → statement M
 setup-spec =
     tie.close
     (tie.spec
+    (λ c. search needs)
     (λ c κs. search needs)
     (λ c κs. search needs)
     (λ c κs. search needs)
-    (λ c. rw (sym (c .before .before .pages-known .ensures) ∙ c .before .if1 .taken, c .freed .ensures))
-    (λ c. rw (sym (c .before .before .pages-known .ensures) ∙ c .before .if1 .left, c .freed2 .ensures)))
+    (λ c. rw (sym (c .before .before .all-at-most .ensures) ∙ c .before .if1 .taken, c .freed .ensures))
+    (λ c. rw (sym (c .before .before .all-at-most .ensures) ∙ c .before .if1 .left, c .freed2 .ensures)))

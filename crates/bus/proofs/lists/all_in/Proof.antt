@@ -9,9 +9,9 @@ use lib.ListN.{length, getD}
 use Rattle.words.specs.Below.{allBelow}
 use Rattle.words.proofs.BelowLaws.{all-start, all-next, at-bound}
 use Rattle.cards.specs.Cards.{cardIn}
-use Rattle.bus.specs.Settle.{everyListed}
-use Rattle.bus.proofs.settle.all_in.Statement.{statement}
-use Rattle.bus.proofs.settle.all_in.Tie as tie
+use Rattle.words.specs.Among.{everyListed}
+use Rattle.bus.proofs.lists.all_in.Statement.{statement}
+use Rattle.bus.proofs.lists.all_in.Tie as tie
 
 abbrev Inv-loop : tie.InvT-loop
 Inv-loop set cards all₀ i₀ all i =

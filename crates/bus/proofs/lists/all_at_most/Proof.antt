@@ -1,4 +1,4 @@
--- The numbers passed are cards.
+-- The numbers passed are small enough.
 use Prim.Native.Nat.{_≤_, _-_}
 use mathlib.Core.Path.{_≡_, refl}
 use native.Mathlib.Omega.{arith}
@@ -6,20 +6,20 @@ use lib.Dec.{leb}
 use lib.ListN.{length, getD}
 use Rattle.words.specs.Below.{allBelow}
 use Rattle.words.proofs.BelowLaws.{all-start, all-next, at-bound}
-use Rattle.bus.specs.Settle.{everyListed}
-use Rattle.bus.proofs.settle.all_cards.Statement.{statement}
-use Rattle.bus.proofs.settle.all_cards.Tie as tie
+use Rattle.words.specs.Among.{everyListed}
+use Rattle.bus.proofs.lists.all_at_most.Statement.{statement}
+use Rattle.bus.proofs.lists.all_at_most.Tie as tie
 
 abbrev Inv-loop : tie.InvT-loop
-Inv-loop cards all₀ i₀ all i =
-    (i ≤ length cards) × (all ≡ allBelow (λ k. leb (getD cards k 0) 15) i)
+Inv-loop most numbers all₀ i₀ all i =
+    (i ≤ length numbers) × (all ≡ allBelow (λ k. leb (getD numbers k 0) most) i)
 
 abbrev μ-loop : tie.MeasureT-loop
-μ-loop cards all₀ i₀ all i = length cards - i
+μ-loop most numbers all₀ i₀ all i = length numbers - i
 
-pub all-cards-spec : {M : Type 1} → statement M
+pub all-at-most-spec : {M : Type 1} → statement M
 unfolding everyListed
-all-cards-spec =
+all-at-most-spec =
     tie.close
     (tie.spec
     Inv-loop
