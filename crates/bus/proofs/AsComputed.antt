@@ -49,21 +49,7 @@ settle-refusals = record {
 
 pub printed-run : PrintedRun
 unfolding allBelow orBelow look everyContender shown looked settled afterLook someCard isWithin afterLooksOf everyListed drivingFits makesSense
-printed-run = record {
-  atFirst = refl;
-  asked = refl;
-  oneLooked = refl;
-  threeLooked = refl;
-  tooEarly = refl;
-  looksAgain = refl;
-  grant = refl;
-  one = refl;
-  taken = refl;
-  two = refl;
-  holdFalse = refl;
-  refused = refl;
-  back = refl;
-}
+printed-run = record { atFirst = refl; asPrinted = refl; back = refl }
 
 pub zero-and-own-bits : ZeroAndOwnBits
 unfolding allBelow orBelow look everyContender shown looked settled afterLook someCard isWithin

@@ -4,7 +4,7 @@ use Prim.Native.Nat.{ℕ}
 use mathlib.Core.Path.{_≡_}
 use mathlib.Core.Bool.{true, false}
 use mathlib.Core.List.{List, [], _∷_, _++_}
-use lib.ListN.{getD, replicate, take}
+use lib.ListN.{getD, replicate}
 use Rattle.phases.specs.Phase as Phase
 use Rattle.phases.specs.Signal.{signalsIn}
 use Rattle.bus.specs.Refusal as Refusal
@@ -66,11 +66,7 @@ pub record SettleRefusals : Type 0 where
   pub idle : settleOf (requested (freeBus 0x0003 eightBit) 0x0001) (0 ∷ 1 ∷ []) .answer ≡ 0x07
   pub unsettled : settleOf (requested (freeBus 0x0003 eightBit) 0x0002) [] .answer ≡ 0x08
 
--- ---- The states of 01's printed run, without its cycles
-
-abbrev pub run : Bus → List Method → Bus
-run bus [] = bus
-run bus (method ∷ methods) = run (after method bus) methods
+-- ---- 01's printed run, without its cycles
 
 abbrev pub pages : List ℕ
 pages = 1 ∷ 2 ∷ replicate 14 0
@@ -78,25 +74,39 @@ pages = 1 ∷ 2 ∷ replicate 14 0
 abbrev pub setUp : Bus
 setUp = setupOf 0x000A pages .bus
 
--- the run up to the acknowledge that is taken
-abbrev pub upToGrant : List Method
-upToGrant = request 0x000A ∷ look 1 ∷ look 3 ∷ acknowledge ∷ look 1 ∷ acknowledge ∷ []
+-- in phase 5 HOLD is false, and the request is made all the same
+abbrev pub theRun : List Method
+theRun =
+    request 0x000A ∷ look 1 ∷ look 3 ∷ acknowledge ∷ look 1 ∷ acknowledge ∷ beginTransferOne 3 ∷ takeBus 3 ∷ beginTransferTwo 3 ∷ request 0x0002
+    ∷ giveBack 3 ∷ []
+
+-- four of an answer's columns: phase, granted card, lines, signals
+abbrev pub columns : Bus → List ℕ
+columns bus = bus .phase ∷ bus .granted ∷ linesOf bus ∷ signalsIn (bus .phase) ∷ []
+
+-- those of the first state, and of the state after each method
+abbrev pub columnsOf : Bus → List Method → List (List ℕ)
+columnsOf bus [] = columns bus ∷ []
+columnsOf bus (method ∷ methods) = columns bus ∷ columnsOf (after method bus) methods
 
 pub record PrintedRun : Type 0 where
-  pub atFirst : setupOf 0x000A pages ≡ record { answer = Refusal.accepted; bus = stateOf 0x000A pages 0 0 silent 0xFF }
-  pub asked : run setUp (take 1 upToGrant) ≡ stateOf 0x000A pages 1 0x000A silent 0xFF
-  pub oneLooked : linesOf (run setUp (take 2 upToGrant)) ≡ 1
-  pub threeLooked : linesOf (run setUp (take 3 upToGrant)) ≡ 3
-  pub tooEarly : run setUp (take 4 upToGrant) ≡ run setUp (take 3 upToGrant)
-  pub looksAgain : linesOf (run setUp (take 5 upToGrant)) ≡ 3
-  pub grant : run setUp upToGrant ≡ stateOf 0x000A pages 2 0 silent 3
-  pub one : run setUp (upToGrant ++ (beginTransferOne 3 ∷ [])) ≡ stateOf 0x000A pages 3 0 silent 3
-  pub taken : run setUp (upToGrant ++ (beginTransferOne 3 ∷ takeBus 3 ∷ [])) ≡ stateOf 0x000A pages 4 0 silent 3
-  pub two : run setUp (upToGrant ++ (beginTransferOne 3 ∷ takeBus 3 ∷ beginTransferTwo 3 ∷ [])) ≡ stateOf 0x000A pages 5 0 silent 3
-  -- HOLD is false by now, and the request still changes nothing
-  pub holdFalse : signalsIn 5 ≡ 0x1E
-  pub refused : run setUp (upToGrant ++ (beginTransferOne 3 ∷ takeBus 3 ∷ beginTransferTwo 3 ∷ request 0x0002 ∷ [])) ≡ stateOf 0x000A pages 5 0 silent 3
-  pub back : run setUp (upToGrant ++ (beginTransferOne 3 ∷ takeBus 3 ∷ beginTransferTwo 3 ∷ giveBack 3 ∷ [])) ≡ setUp
+  pub atFirst : setupOf 0x000A pages ≡ record { answer = Refusal.accepted; bus = stateOf 0x000A pages Phase.free 0 silent 0xFF }
+  pub asPrinted : columnsOf setUp theRun
+      ≡ (0x00 ∷ 0xFF ∷ 0x00 ∷ 0x00 ∷ [])
+      ∷ (0x01 ∷ 0xFF ∷ 0x00 ∷ 0x01 ∷ [])
+      ∷ (0x01 ∷ 0xFF ∷ 0x01 ∷ 0x01 ∷ [])
+      ∷ (0x01 ∷ 0xFF ∷ 0x03 ∷ 0x01 ∷ [])
+      ∷ (0x01 ∷ 0xFF ∷ 0x03 ∷ 0x01 ∷ [])
+      ∷ (0x01 ∷ 0xFF ∷ 0x03 ∷ 0x01 ∷ [])
+      ∷ (0x02 ∷ 0x03 ∷ 0x00 ∷ 0x03 ∷ [])
+      ∷ (0x03 ∷ 0x03 ∷ 0x00 ∷ 0x1F ∷ [])
+      ∷ (0x04 ∷ 0x03 ∷ 0x00 ∷ 0x3F ∷ [])
+      ∷ (0x05 ∷ 0x03 ∷ 0x00 ∷ 0x1E ∷ [])
+      ∷ (0x05 ∷ 0x03 ∷ 0x00 ∷ 0x1E ∷ [])
+      ∷ (0x00 ∷ 0xFF ∷ 0x00 ∷ 0x00 ∷ [])
+      ∷ []
+  -- given back, the bus is what it was at first
+  pub back : after (giveBack 3) (stateOf 0x000A pages Phase.transferTwo 0 silent 3) ≡ setUp
 
 -- ---- Card 0, and a card's own bits
 

@@ -2,10 +2,10 @@
 use mathlib.Core.Path.{_≡_, refl}
 use mathlib.Core.Bool.{true, false}
 use mathlib.Core.List.{List, [], _∷_}
-use lib.Dec.{ltb}
+use lib.Dec.{leb, ltb}
 use Rattle.words.specs.Bits.{bitAt}
 use Rattle.words.specs.Below.{allBelow, orBelow}
-use Rattle.words.specs.Among.{isAmong}
+use Rattle.words.specs.Among.{isAmong, everyListed}
 use Rattle.words.specs.First.{Reason, reason, firstOf, appliesAs, ascendsFrom, leastBelow}
 
 -- 10 has its ones at the places 3 and 1
@@ -26,6 +26,11 @@ or-of-few = (refl, refl, refl)
 pub nine-among : (isAmong 9 (4 ∷ 9 ∷ 10 ∷ []) ≡ true) × (isAmong 3 (4 ∷ 9 ∷ 10 ∷ []) ≡ false) × (isAmong 11 (4 ∷ 9 ∷ 10 ∷ []) ≡ false)
 unfolding isAmong
 nine-among = (refl, refl, refl)
+
+-- every number in the list 0, 2 is at most 2, and not every one in 0, 3
+pub two-at-most : (everyListed (λ n. leb n 2) (0 ∷ 2 ∷ []) ≡ true) × (everyListed (λ n. leb n 2) (0 ∷ 3 ∷ []) ≡ false)
+unfolding allBelow everyListed
+two-at-most = (refl, refl)
 
 abbrev twoFiveSix : List Reason
 twoFiveSix = reason 2 false ∷ reason 5 true ∷ reason 6 true ∷ []
