@@ -1,6 +1,7 @@
 -- By whether the page codes are known.
 use mathlib.Core.Path.{sym, _∙_}
 use borrow.Author.Needs.{needs}
+use Rattle.words.proofs.TestLaws.{then-pick, else-pick}
 use Rattle.bus.proofs.state.Bus.setup.Statement.{statement}
 use Rattle.bus.proofs.state.Bus.setup.Tie as tie
 
@@ -12,5 +13,5 @@ setup-spec =
     (λ c κs. search needs)
     (λ c κs. search needs)
     (λ c κs. search needs)
-    (λ c. rw (sym (c .before .before .all-at-most .ensures) ∙ c .before .if1 .taken, c .freed .ensures))
-    (λ c. rw (sym (c .before .before .all-at-most .ensures) ∙ c .before .if1 .left, c .freed2 .ensures)))
+    (λ c. then-pick _ (sym (c .before .before .all-at-most .ensures) ∙ c .before .if1 .taken) (rw (c .freed .ensures)))
+    (λ c. else-pick _ (sym (c .before .before .all-at-most .ensures) ∙ c .before .if1 .left) (rw (c .freed2 .ensures))))
