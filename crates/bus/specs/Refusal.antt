@@ -1,16 +1,24 @@
--- The answers of setup and of settle, as 01 numbers them in "Refusals and their order".
+-- The answers, as 01 numbers them in "Refusals and their order"; which call can give which is said where the call is defined.
 use Prim.Native.Nat.{ℕ}
 
 abbrev pub accepted : ℕ
 accepted = 0x00
 
+-- memory or ports of the wrong length
+abbrev pub wrongBuffers : ℕ
+wrongBuffers = 0x01
+
 -- a senseless state
 abbrev pub senseless : ℕ
 senseless = 0x02
 
--- a number in settle's list is no card's
+-- a field that no such event has; a number in settle's list that is no card's
 abbrev pub malformed : ℕ
 malformed = 0x03
+
+-- a request of nobody
+abbrev pub namesNobody : ℕ
+namesNobody = 0x04
 
 -- a card isn't fitted
 abbrev pub notFitted : ℕ
@@ -20,13 +28,21 @@ notFitted = 0x05
 abbrev pub wrongPhase : ℕ
 wrongPhase = 0x06
 
--- a card in settle's list doesn't contend
+-- a card, or the permanent master, that has no turn
 abbrev pub notItsTurn : ℕ
 notItsTurn = 0x07
 
 -- the lines aren't settled
 abbrev pub unsettled : ℕ
 unsettled = 0x08
+
+-- a word at an odd address
+abbrev pub oddWord : ℕ
+oddWord = 0x09
+
+-- nothing answers at the address
+abbrev pub absent : ℕ
+absent = 0x0A
 
 -- setup was given a page code above 2
 abbrev pub badPage : ℕ

@@ -1,5 +1,22 @@
--- The kinds of events that are cycles, as 01 numbers them in "Events".
+-- The fifteen kinds of events, as 01 numbers them in "Events".
 use Prim.Native.Nat.{ℕ}
+
+abbrev pub request : ℕ
+request = 0x01
+
+abbrev pub look : ℕ
+look = 0x02
+
+abbrev pub acknowledge : ℕ
+acknowledge = 0x03
+
+abbrev pub beginTransferOne : ℕ
+beginTransferOne = 0x04
+
+abbrev pub takeBus : ℕ
+takeBus = 0x05
+
+-- ---- The cycles, from here to output
 
 abbrev pub byteRead : ℕ
 byteRead = 0x06
@@ -21,3 +38,14 @@ input = 0x0B
 
 abbrev pub output : ℕ
 output = 0x0C
+
+-- ---- The ways back
+
+abbrev pub beginTransferTwo : ℕ
+beginTransferTwo = 0x0D
+
+abbrev pub giveBack : ℕ
+giveBack = 0x0E
+
+abbrev pub reset : ℕ
+reset = 0x0F

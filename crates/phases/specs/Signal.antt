@@ -26,6 +26,18 @@ DODSB = 0x10
 abbrev pub CDSB : ℕ
 CDSB = 0x20
 
+-- ---- Two that go by the cycle and not by the phase (000, 2.6.5)
+
+-- the page answers with sixteen bits
+abbrev pub SIXTN : ℕ
+SIXTN = 0x40
+
+-- the master asks for a word
+abbrev pub sXTRQ : ℕ
+sXTRQ = 0x80
+
+-- ---- Those that go by the phase
+
 -- HOLD is asserted by the contenders, then by the granted card until transfer two begins (000, 2.8.2.3.6; 001 has its end)
 abbrev pub isHeld : ℕ → Bool
 isHeld phase = isFrom arbitration owned phase

@@ -1,7 +1,7 @@
 -- The laws of `allBelow` and `orBelow`: one entry out of all, all from each, and what the OR of many numbers is.
 use mathlib.Core.Path.{_≡_, refl, sym, ap, ap₂, _∙_}
 use mathlib.Core.Logic.{_⊎_, ⊎-elim}
-use mathlib.Core.Bool.{Bool, true, false, not, _&&_, _||_, and-eq-true-iff, true≢false}
+use mathlib.Core.Bool.{Bool, true, false, not, cond, _&&_, _||_, and-eq-true-iff, true≢false}
 use Prim.Native.Nat.{ℕ, zero, suc, _+_, _-_, _/_, _^_, _<_, _≤_}
 use native.Mathlib.Nat.{not-suc-le-zero, le-antisymm, le-of-suc-le-suc, eq-or-lt-of-le, le-step, lt-suc-self}
 use native.Mathlib.Numerals.{add-one}
@@ -72,6 +72,15 @@ all-same f g (suc n) each = ap₂ _&&_ (all-same f g n (λ k h. each k (le-step 
 
 pub same-below : (f g : ℕ → ℕ) (n : ℕ) → allBelow (λ k. eqb (f k) (g k)) n ≡ true → (k : ℕ) → k < n → f k ≡ g k
 same-below f g n test k h = eqb-true (f k) (g k) (all-at (λ i. eqb (f i) (g i)) n test k h)
+
+-- of a table of tests
+pub same-tests-below : (f g : ℕ → Bool) (n : ℕ) → allBelow (λ k. cond (f k) (g k) (not (g k))) n ≡ true → (k : ℕ) → k < n → f k ≡ g k
+same-tests-below f g n test k h = go (f k) (g k) (all-at (λ i. cond (f i) (g i) (not (g i))) n test k h)
+  where
+    go : (a b : Bool) → cond a b (not b) ≡ true → a ≡ b
+    go true b e = sym e
+    go false true e = absurd (true≢false (sym e))
+    go false false e = refl
 
 -- of a table of tables
 pub same-in-rows : (f g : ℕ → ℕ → ℕ) (m n : ℕ) → allBelow (λ j. allBelow (λ k. eqb (f j k) (g j k)) n) m ≡ true

@@ -1,0 +1,3 @@
+-- Laws that the functions' proofs cite, and the promises' proofs.
+pub mod TableLaws
+pub mod TurnLaws

@@ -1,0 +1,94 @@
+-- The columns of the table, computed over all kinds that a byte can say, and the pages.
+use Prim.Native.Nat.{ℕ, suc, _+_, _/_, _<_, _≤_}
+use mathlib.Core.Path.{_≡_, refl, sym, subst}
+use mathlib.Core.Logic.{⊎-elim}
+use mathlib.Core.Bool.{Bool, false, _&&_, _||_}
+use mathlib.Core.List.{List}
+use native.Mathlib.Nat.{eq-or-lt-of-le}
+use native.Mathlib.Omega.{arith}
+use lib.Dec.{eqb, leb, lit≤}
+use lib.ListN.{length, List·getD-eq-default}
+use borrow.Author.Tests.{ne-eqb}
+use Rattle.words.specs.Below.{allBelow}
+use Rattle.words.proofs.BelowLaws.{same-tests-below}
+use Rattle.phases.specs.Control.{allowsCycles}
+use Rattle.judgement.specs.Table.{Row, row, master, rowOf, rowIn, noRow, listsSpeaker, listsAddress, listsDatum}
+use Rattle.judgement.specs.Refusals.{pageAt}
+use Rattle.judgement.specs.declared.turns.Verdict.the-variants.{Cycle}
+
+pub speaker-column : (kind : ℕ) → kind < 256 → (eqb kind 0x02 || leb 0x04 kind && leb kind 0x0E) ≡ listsSpeaker kind
+unfolding allBelow rowIn
+speaker-column = same-tests-below (λ k. eqb k 0x02 || leb 0x04 k && leb k 0x0E) listsSpeaker 256 refl
+
+pub address-column : (kind : ℕ) → kind < 256 → (leb 0x06 kind && leb kind 0x0C) ≡ listsAddress kind
+unfolding allBelow rowIn
+address-column = same-tests-below (λ k. leb 0x06 k && leb k 0x0C) listsAddress 256 refl
+
+pub datum-column : (kind : ℕ) → kind < 256 → (eqb kind 0x01 || eqb kind 0x08 || eqb kind 0x0A || eqb kind 0x0C) ≡ listsDatum kind
+unfolding allBelow rowIn
+datum-column = same-tests-below (λ k. eqb k 0x01 || eqb k 0x08 || eqb k 0x0A || eqb k 0x0C) listsDatum 256 refl
+
+-- beyond the sixteen pages there is none
+pub no-page : (pages : List ℕ) → length pages ≡ 16 → (address : ℕ) → 0xFFFF < address → 0 ≡ pageAt pages address
+no-page pages size address h =
+    let beyond : length pages ≤ address / 0x1000 = omega (arith, size) in
+    sym (List·getD-eq-default pages 0 beyond)
+
+-- ---- Rows
+
+-- a kind beyond the table's last has no row
+pub no-row : (kind : ℕ) → 0x0F < kind → rowOf kind ≡ noRow
+unfolding rowIn
+no-row kind h =
+    rw (
+      other 0x01 (lit≤ tt),
+      other 0x02 (lit≤ tt),
+      other 0x03 (lit≤ tt),
+      other 0x04 (lit≤ tt),
+      other 0x05 (lit≤ tt),
+      other 0x06 (lit≤ tt),
+      other 0x07 (lit≤ tt),
+      other 0x08 (lit≤ tt),
+      other 0x09 (lit≤ tt),
+      other 0x0A (lit≤ tt),
+      other 0x0B (lit≤ tt),
+      other 0x0C (lit≤ tt),
+      other 0x0D (lit≤ tt),
+      other 0x0E (lit≤ tt),
+      other 0x0F (lit≤ tt),
+    )
+  where
+    other : (k : ℕ) → k ≤ 0x0F → eqb kind k ≡ false
+    other k l = ne-eqb kind k (λ e. omega (arith, e))
+
+pub no-row-zero : (kind : ℕ) → kind < 0x01 → rowOf kind ≡ noRow
+unfolding rowIn
+no-row-zero kind h = let none : kind ≡ 0 = omega arith in rw none
+
+-- a kind that is none of the first five is past them
+pub past-five : (kind : ℕ) → 0x01 ≤ kind → (kind ≡ 0x01 → ⊥) → (kind ≡ 0x02 → ⊥) → (kind ≡ 0x03 → ⊥) → (kind ≡ 0x04 → ⊥) → (kind ≡ 0x05 → ⊥) → 0x06 ≤ kind
+past-five kind h n1 n2 n3 n4 n5 = past n5 (past n4 (past n3 (past n2 (past n1 h))))
+  where
+    past : {k : ℕ} → (kind ≡ k → ⊥) → k ≤ kind → suc k ≤ kind
+    past other l = ⊎-elim (λ e. absurd (other (sym e))) (λ m. m) (eq-or-lt-of-le l)
+
+-- what holds of the seven kinds of cycles holds of a kind that is one
+pub each-cycle : (P : ℕ → Type 0) → P 0x06 → P 0x07 → P 0x08 → P 0x09 → P 0x0A → P 0x0B → P 0x0C → (kind : ℕ) → 0x06 ≤ kind → kind ≤ 0x0C → P kind
+each-cycle P p6 p7 p8 p9 pA pB pC kind low high =
+    up 0x06 p6 (up 0x07 p7 (up 0x08 p8 (up 0x09 p9 (up 0x0A pA (up 0x0B pB (up 0x0C pC (λ l. absurd (omega (arith, l))))))))) low
+  where
+    up : (k : ℕ) → P k → (k + 1 ≤ kind → P kind) → k ≤ kind → P kind
+    up k here further l = ⊎-elim (λ e. subst P e here) (λ m. further (let n : k + 1 ≤ kind = omega (arith, m) in n)) (eq-or-lt-of-le l)
+
+-- the row of a cycle
+pub record CycleRow (row : Row) : Type 0 where
+  pub speaker : row .speaker ≡ master
+  pub step : row .step ≡ Cycle
+  pub allows : row .allows ≡ allowsCycles
+
+pub cycle-row : (kind : ℕ) → 0x06 ≤ kind → kind ≤ 0x0C → CycleRow (rowOf kind)
+unfolding rowIn
+cycle-row = each-cycle (λ k. CycleRow (rowOf k)) same same same same same same same
+  where
+    same : {s d : Bool} {k : ℕ} → CycleRow (row k master s d allowsCycles Cycle)
+    same = record { speaker = refl; step = refl; allows = refl }

@@ -1,0 +1,14 @@
+-- By whether there is such a page.
+use borrow.Author.Needs.{needs}
+use Rattle.judgement.proofs.TableLaws.{no-page}
+use Rattle.judgement.proofs.reasons.page_at.Statement.{statement}
+use Rattle.judgement.proofs.reasons.page_at.Tie as tie
+
+pub page-at-spec : {M : Type 1} → statement M
+page-at-spec = 
+    tie.close
+    (tie.spec
+    (λ c. search needs)
+    (λ c. search needs)
+    (λ c. search needs)
+    (λ c. no-page (c .before .args .t1) (search needs) (c .before .args .address) (c .if1 .left)))

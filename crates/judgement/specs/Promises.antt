@@ -1,0 +1,1 @@
+-- What is promised of the judgement. The proof of each stands in proofs/ under its name in lower case, with hyphens.

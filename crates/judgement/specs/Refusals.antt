@@ -1,0 +1,65 @@
+-- The refusals of an event, one by one (01, "Refusals and their order"): each says when its number applies, whatever else may apply too.
+use Prim.Native.Nat.{ℕ, _/_, _%_}
+use mathlib.Core.Bool.{Bool, not, _&&_, _||_}
+use mathlib.Core.List.{List, [], _∷_}
+use lib.Dec.{eqb, leb, ltb}
+use lib.ListN.{length, getD}
+use Rattle.words.specs.Among.{isAmong}
+use Rattle.phases.specs.Kind as Kind
+use Rattle.cards.specs.Cards.{cardIn, someCard, isWithin}
+use Rattle.bus.specs.State.{isSettled}
+use Rattle.bus.specs.declared.state.Bus.{Bus}
+use Rattle.judgement.specs.Table.{permanentMaster, hasTurn, rowOf, listsSpeaker, listsAddress, listsDatum}
+use Rattle.judgement.specs.declared.event.Event.{Event}
+
+-- 01: the memory isn't 65,536 bytes, or the ports not 256
+abbrev pub hasWrongBuffers : List ℕ → List ℕ → Bool
+hasWrongBuffers memory ports = not (eqb (length memory) 0x10000 && eqb (length ports) 0x100)
+
+-- 02 is bus Settle.isSenseless.
+
+-- 03: there is no such kind or speaker, or a field that isn't listed has a value, or a byte's datum is more than a byte
+abbrev pub isMalformed : Event → Bool
+isMalformed event =
+    not (leb Kind.request (event .kind) && leb (event .kind) Kind.reset)
+    || ltb permanentMaster (event .speaker)
+    || not (listsSpeaker (event .kind)) && not (eqb (event .speaker) 0)
+    || not (listsAddress (event .kind)) && not (eqb (event .address) 0)
+    || not (listsDatum (event .kind)) && not (eqb (event .datum) 0)
+    || (eqb (event .kind) Kind.byteWrite || eqb (event .kind) Kind.output) && ltb 0xFF (event .datum)
+
+-- 04: a request for no card
+abbrev pub namesNobody : Event → Bool
+namesNobody event = eqb (event .kind) Kind.request && not (someCard (event .datum))
+
+-- 05: a card that speaks or that is requested for isn't fitted; the permanent master, 10h, is no card
+abbrev pub namesUnfitted : ℕ → Event → Bool
+namesUnfitted fitted event =
+    listsSpeaker (event .kind) && leb (event .speaker) 15 && not (cardIn fitted (event .speaker))
+    || eqb (event .kind) Kind.request && not (isWithin (event .datum) fitted)
+
+-- 06: the phase doesn't allow the kind
+abbrev pub isWrongPhase : Bus → Event → Bool
+isWrongPhase bus event = not (rowOf (event .kind) .allows (bus .phase))
+
+-- 07: the speaker isn't whom the kind asks for
+abbrev pub isNotItsTurn : Bus → Event → Bool
+isNotItsTurn bus event = not (hasTurn (rowOf (event .kind) .speaker) bus (event .speaker))
+
+-- 08: an acknowledge, and some contender's look would change what it drives
+abbrev pub isUnsettled : Bus → Event → Bool
+isUnsettled bus event = eqb (event .kind) Kind.acknowledge && not (isSettled bus)
+
+-- 09: a word at an odd address
+abbrev pub isOddWord : Event → Bool
+isOddWord event = (eqb (event .kind) Kind.wordRead || eqb (event .kind) Kind.wordWrite) && not (eqb (event .address % 2) 0)
+
+-- the code of the page that an address lies in; there are sixteen pages of 4,096 bytes, and beyond them none
+abbrev pub pageAt : List ℕ → ℕ → ℕ
+pageAt pages address = getD pages (address / 0x1000) 0
+
+-- 0A: no memory there, or no port of that number
+abbrev pub isAbsent : List ℕ → Event → Bool
+isAbsent pages event =
+    leb Kind.byteRead (event .kind) && leb (event .kind) Kind.wordWrite && (ltb 0xFFFF (event .address) || eqb (pageAt pages (event .address)) 0)
+    || (eqb (event .kind) Kind.input || eqb (event .kind) Kind.output) && ltb 0xFF (event .address)

@@ -1,0 +1,13 @@
+// The event: what a card or the permanent master does on the bus.
+
+// The permanent master as a speaker.
+pub const PERMANENT_MASTER: u8 = 0x10;
+
+pub struct Event {
+    pub kind: u8,
+    // A card, or the permanent master.
+    pub speaker: u8,
+    // 24 bits; whatever is beyond the memory is refused as such.
+    pub address: u32,
+    pub datum: u16,
+}
