@@ -1,3 +1,4 @@
 -- Laws that the functions' proofs cite, and the promises' proofs.
+pub mod Passed
 pub mod TableLaws
 pub mod TurnLaws

@@ -21,7 +21,18 @@ use Rattle.judgement.specs.Refusals.{
 }
 use Rattle.judgement.specs.declared.event.Event.{Event}
 use Rattle.judgement.specs.declared.turns.Verdict.{Verdict}
-use Rattle.judgement.specs.declared.turns.Verdict.the-variants.{Refused, Cycle}
+use Rattle.judgement.specs.declared.turns.Verdict.the-variants.{
+  Refused,
+  Request,
+  Look,
+  Acknowledge,
+  BeginTransferOne,
+  TakeBus,
+  Cycle,
+  BeginTransferTwo,
+  GiveBack,
+  Reset,
+}
 
 -- what goes by kind and phase
 abbrev pub turnReasons : Bus → Event → List Reason
@@ -55,6 +66,19 @@ unfoldable pub refusalOf : List ℕ → List ℕ → Bus → Event → ℕ
 refusalOf memory ports bus event = firstOf (reasonsAgainst memory ports bus event)
 
 -- ---- The verdict
+
+-- the number that is answered
+abbrev pub numberOf : Verdict → ℕ
+numberOf (Refused number) = number
+numberOf Request = Refusal.accepted
+numberOf Look = Refusal.accepted
+numberOf Acknowledge = Refusal.accepted
+numberOf BeginTransferOne = Refusal.accepted
+numberOf TakeBus = Refusal.accepted
+numberOf Cycle = Refusal.accepted
+numberOf BeginTransferTwo = Refusal.accepted
+numberOf GiveBack = Refusal.accepted
+numberOf Reset = Refusal.accepted
 
 -- the refusal, or the kind's step where the number says that there is none
 abbrev pub verdictOn : ℕ → Event → Verdict

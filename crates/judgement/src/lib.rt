@@ -9,3 +9,4 @@ pub use event::PERMANENT_MASTER;
 pub use reasons::page_at;
 pub use turns::Verdict;
 pub use turns::judge;
+pub use turns::number_of;

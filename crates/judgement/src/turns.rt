@@ -2,7 +2,7 @@
 ghost use mathlib.Core.Path.{_≡_};
 ghost use mathlib.Core.Bool.{cond};
 ghost use Rattle.bus.specs.Refusal.{notItsTurn, unsettled};
-ghost use Rattle.judgement.specs.Judge.{turnOf, soundVerdict, cycleTurn};
+ghost use Rattle.judgement.specs.Judge.{numberOf, turnOf, soundVerdict, cycleTurn};
 use crate::event::Event;
 use crate::event::PERMANENT_MASTER;
 use crate::reasons::is_absent;
@@ -27,6 +27,24 @@ pub enum Verdict {
     BeginTransferTwo,
     GiveBack,
     Reset,
+}
+
+// The number that is answered: 0 for a step.
+pub fn number_of(verdict: Verdict) -> u8
+    ensures { λ r. ⌜ r ≡ numberOf verdict ⌝ }
+{
+    match verdict {
+        Verdict::Refused(number) => number,
+        Verdict::Request => ACCEPTED,
+        Verdict::Look => ACCEPTED,
+        Verdict::Acknowledge => ACCEPTED,
+        Verdict::BeginTransferOne => ACCEPTED,
+        Verdict::TakeBus => ACCEPTED,
+        Verdict::Cycle => ACCEPTED,
+        Verdict::BeginTransferTwo => ACCEPTED,
+        Verdict::GiveBack => ACCEPTED,
+        Verdict::Reset => ACCEPTED,
+    }
 }
 
 // 03, 04 and 05, and then what kind and phase say.

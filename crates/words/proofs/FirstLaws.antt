@@ -33,6 +33,16 @@ first-append (r ∷ reasons) more n = go (r .applies) (first-append reasons more
     go true rest = rw (ne-eqb (r .number) 0 (λ e. omega (arith, n .0)))
     go false rest = rest
 
+-- where no number is given, the first reason doesn't apply, and nothing is given of the rest
+pub first-none : (r : Reason) (reasons : List Reason) → eqb (r .number) 0 ≡ false → firstOf (r ∷ reasons) ≡ 0
+    → (r .applies ≡ false) × (firstOf reasons ≡ 0)
+unfolding firstOf
+first-none r reasons n e = go (r .applies) e
+  where
+    go : (b : Bool) → cond b (r .number) (firstOf reasons) ≡ 0 → (b ≡ false) × (firstOf reasons ≡ 0)
+    go true given = absurd (true≢false (sym (eq-eqb _ _ given) ∙ n))
+    go false rest = (refl, rest)
+
 -- ---- The first of reasons in the order of their numbers
 
 -- a reason that applies has a number above the bound

@@ -4,7 +4,7 @@ use Rattle.judgement.proofs.reasons.is_malformed.Statement.{statement}
 use Rattle.judgement.proofs.reasons.is_malformed.Tie as tie
 
 pub is-malformed-spec : {M : Type 1} → statement M
-is-malformed-spec = 
+is-malformed-spec =
     tie.close
     (tie.spec
     (λ c κs. search needs)

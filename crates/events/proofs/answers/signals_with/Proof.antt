@@ -1,0 +1,17 @@
+-- From what the calls ensure; the sum fits a byte.
+use Prim.Native.Nat.{_+_}
+use mathlib.Core.Path.{ap₂}
+use native.Mathlib.Omega.{arith}
+use borrow.Author.Needs.{needs}
+use Rattle.events.proofs.AnswerLaws.{signals-fit}
+use Rattle.events.proofs.answers.signals_with.Statement.{statement}
+use Rattle.events.proofs.answers.signals_with.Tie as tie
+
+pub signals-with-spec : {M : Type 1} → statement M
+signals-with-spec =
+    tie.close
+    (tie.spec
+    (λ c κs. search needs)
+    (λ c κs. search needs)
+    (λ c. omega (arith, c .before .signals .ensures, c .word-signals .ensures, signals-fit (c .before .before .args .phase) (c .before .before .args .kind) (c .before .before .args .sixteen)))
+    (λ c. ap₂ _+_ (c .before .signals .ensures) (c .word-signals .ensures)))

@@ -1,0 +1,24 @@
+-- From what the calls ensure.
+use mathlib.Core.Path.{sym, ap, _∙_}
+use borrow.Author.Needs.{needs}
+use Rattle.events.proofs.steps.accepted.Statement.{statement}
+use Rattle.events.proofs.steps.accepted.Tie as tie
+
+pub accepted-spec : {M : Type 1} → statement M
+accepted-spec =
+    tie.close
+    (tie.spec
+    (λ c κs. search needs)
+    (λ c κs. search needs)
+    (λ c κs. search needs)
+    (λ c κs. search needs)
+    (λ c κs. search needs)
+    (λ c κs. search needs)
+    (λ c. search needs)
+    (λ c. search needs)
+    (λ c.
+    let moved = c .before .before .before .before .before .before .before .before in
+    let page = moved .before .before .before .page-at .ensures in (
+      rw (c .answer-with .ensures, c .before .status .ensures, c .before .before .signals-with .ensures, c .before .before .before .step-by .ensures, moved .cycle .ensures .0, page),
+      (rw (moved .cycle .ensures .1 .0, page), rw (moved .cycle .ensures .1 .1)),
+    )))
