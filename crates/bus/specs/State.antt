@@ -16,7 +16,7 @@ nobody = 0xFF
 abbrev pub silent : List ℕ
 silent = replicate 16 0
 
--- ---- The two places where a state is built. A new field gets its first value in freeBus, and is kept in changed.
+-- ---- The three places where a state is built. A new field gets its first value in freeBus, and is kept in the others.
 
 -- free, with these cards and pages
 abbrev pub freeBus : ℕ → List ℕ → Bus
@@ -38,6 +38,17 @@ changed bus phase contenders driven granted = record {
   contenders = contenders;
   driven = driven;
   granted = granted;
+}
+
+-- as it was, with other page codes
+abbrev pub withPages : Bus → List ℕ → Bus
+withPages bus pages = record {
+  fitted = bus .fitted;
+  pages = pages;
+  phase = bus .phase;
+  contenders = bus .contenders;
+  driven = bus .driven;
+  granted = bus .granted;
 }
 
 -- a state, part by part

@@ -20,7 +20,7 @@ signals-fit phase kind sixteen =
       at-most (isAcknowledged phase) pHLDA,
       at-most (isHandedOver phase) (ADSB + SDSB + DODSB),
       at-most (isOwned phase) CDSB,
-      word (eqb kind Kind.wordRead || eqb kind Kind.wordWrite) sixteen,
+      word (Kind.isWord kind) sixteen,
     )
   where
     word : (b s : Bool) → cond b (0x80 + cond s 0x40 0) 0 ≤ 0xC0

@@ -1,4 +1,9 @@
 -- Laws that the functions' proofs cite, and the promises' proofs.
+pub mod AcceptedLaws
 pub mod AnswerLaws
 pub mod CycleLaws
+pub mod EachCycle
+pub mod EachStep
+pub mod Refused
+pub mod Stays
 pub mod StepLaws

@@ -26,7 +26,7 @@ answerWith refusal bus signals status moved = record {
 
 -- the signals that a word adds to its phase's
 unfoldable pub wordSignals : ℕ → Bool → ℕ
-wordSignals kind sixteen = cond (eqb kind Kind.wordRead || eqb kind Kind.wordWrite) (sXTRQ + cond sixteen SIXTN 0) 0
+wordSignals kind sixteen = cond (Kind.isWord kind) (sXTRQ + cond sixteen SIXTN 0) 0
 
 abbrev pub signalsWith : ℕ → ℕ → Bool → ℕ
 signalsWith phase kind sixteen = signalsIn phase + wordSignals kind sixteen

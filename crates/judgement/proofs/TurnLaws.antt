@@ -76,8 +76,7 @@ module _ (bus : Bus) (event : Event) where
 
   -- a kind that asks only for its phase and its speaker, in a right phase
   pub speaker-decides : (k p : ℕ) → event .kind ≡ k → bus .phase ≡ p → rowOf k .allows p ≡ true → eqb k Kind.acknowledge ≡ false
-      → (eqb k Kind.wordRead || eqb k Kind.wordWrite) ≡ false → (leb Kind.byteRead k && leb k Kind.wordWrite) ≡ false
-      → (eqb k Kind.input || eqb k Kind.output) ≡ false
+      → Kind.isWord k ≡ false → Kind.isOfMemory k ≡ false → Kind.isOfPorts k ≡ false
       → cond (hasTurn (rowOf k .speaker) bus (event .speaker)) (rowOf k .step) (Refused Refusal.notItsTurn) ≡ turnOf bus event
   speaker-decides k p e f allowed no-lines no-word no-memory no-port =
       unless (hasTurn (rowOf k .speaker) bus (event .speaker)) (rowOf k .step) (Refused Refusal.notItsTurn)

@@ -18,15 +18,24 @@ hasWrongBuffers memory ports = not (eqb (length memory) 0x10000 && eqb (length p
 
 -- 02 is bus Settle.isSenseless.
 
--- 03: there is no such kind or speaker, or a field that isn't listed has a value, or a byte's datum is more than a byte
+-- a field that the kind doesn't list isn't zero
+abbrev pub hasStrayField : Event → Bool
+hasStrayField event =
+    not (listsSpeaker (event .kind)) && not (eqb (event .speaker) 0)
+    || not (listsAddress (event .kind)) && not (eqb (event .address) 0)
+    || not (listsDatum (event .kind)) && not (eqb (event .datum) 0)
+
+-- a byte write or an output with more than a byte
+abbrev pub isTooWide : Event → Bool
+isTooWide event = (eqb (event .kind) Kind.byteWrite || eqb (event .kind) Kind.output) && ltb 0xFF (event .datum)
+
+-- 03: no such kind, no such speaker, or one of the two above
 abbrev pub isMalformed : Event → Bool
 isMalformed event =
     not (leb Kind.request (event .kind) && leb (event .kind) Kind.reset)
     || ltb permanentMaster (event .speaker)
-    || not (listsSpeaker (event .kind)) && not (eqb (event .speaker) 0)
-    || not (listsAddress (event .kind)) && not (eqb (event .address) 0)
-    || not (listsDatum (event .kind)) && not (eqb (event .datum) 0)
-    || (eqb (event .kind) Kind.byteWrite || eqb (event .kind) Kind.output) && ltb 0xFF (event .datum)
+    || hasStrayField event
+    || isTooWide event
 
 -- 04: a request for no card
 abbrev pub namesNobody : Event → Bool
@@ -52,7 +61,7 @@ isUnsettled bus event = eqb (event .kind) Kind.acknowledge && not (isSettled bus
 
 -- 09: a word at an odd address
 abbrev pub isOddWord : Event → Bool
-isOddWord event = (eqb (event .kind) Kind.wordRead || eqb (event .kind) Kind.wordWrite) && not (eqb (event .address % 2) 0)
+isOddWord event = Kind.isWord (event .kind) && not (eqb (event .address % 2) 0)
 
 -- the code of the page that an address lies in; there are sixteen pages of 4,096 bytes, and beyond them none
 abbrev pub pageAt : List ℕ → ℕ → ℕ
@@ -61,5 +70,5 @@ pageAt pages address = getD pages (address / 0x1000) 0
 -- 0A: no memory there, or no port of that number
 abbrev pub isAbsent : List ℕ → Event → Bool
 isAbsent pages event =
-    leb Kind.byteRead (event .kind) && leb (event .kind) Kind.wordWrite && (ltb 0xFFFF (event .address) || eqb (pageAt pages (event .address)) 0)
-    || (eqb (event .kind) Kind.input || eqb (event .kind) Kind.output) && ltb 0xFF (event .address)
+    Kind.isOfMemory (event .kind) && (ltb 0xFFFF (event .address) || eqb (pageAt pages (event .address)) 0)
+    || Kind.isOfPorts (event .kind) && ltb 0xFF (event .address)

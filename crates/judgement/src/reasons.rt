@@ -1,9 +1,6 @@
 // The reasons to refuse an event that go by more than its kind and the phase.
-ghost use Prim.Native.Nat.{_/_};
 ghost use mathlib.Core.Path.{_≡_};
-ghost use mathlib.Core.Bool.{not, _&&_};
-ghost use lib.Dec.{eqb};
-ghost use Rattle.judgement.specs.Refusals.{isMalformed, namesNobody, namesUnfitted, pageAt, isOddWord, isAbsent};
+ghost use Rattle.judgement.specs.Refusals.{hasStrayField, isMalformed, namesNobody, namesUnfitted, pageAt, isOddWord, isAbsent};
 use crate::columns::lists_address;
 use crate::columns::lists_datum;
 use crate::columns::lists_speaker;
@@ -21,10 +18,17 @@ pub fn is_malformed(event: Event) -> bool
     let kind = event.kind;
     !((REQUEST <= kind) & (kind <= RESET))
         | (PERMANENT_MASTER < event.speaker)
-        | (!lists_speaker(kind) & !(event.speaker == 0))
+        | has_stray_field(event)
+        | (((kind == BYTE_WRITE) | (kind == OUTPUT)) & (0xFF < event.datum))
+}
+
+fn has_stray_field(event: Event) -> bool
+    ensures { λ r. ⌜ r ≡ hasStrayField event ⌝ }
+{
+    let kind = event.kind;
+    (!lists_speaker(kind) & !(event.speaker == 0))
         | (!lists_address(kind) & !(event.address == 0))
         | (!lists_datum(kind) & !(event.datum == 0))
-        | (((kind == BYTE_WRITE) | (kind == OUTPUT)) & (0xFF < event.datum))
 }
 
 // 04

@@ -1,6 +1,7 @@
 -- Who drives which group of lines (000, 2.8.2.3; 01, "State and phases").
 use Prim.Native.Nat.{ℕ}
 use mathlib.Core.Bool.{Bool, cond, not, _&&_}
+use mathlib.Core.List.{List, [], _∷_}
 use lib.Dec.{eqb, leb}
 use Rattle.phases.specs.Phase as Phase
 use Rattle.phases.specs.Signal.{isHandedOver, isOwned}
@@ -50,3 +51,7 @@ driverOf phase group =
     (cond (permanentDrives phase group) (cond (cardDrives phase group) both permanent)
     (cond (cardDrives phase group) card noDriver))
     noDriver
+
+-- the four groups' drivers in a phase, in 01's order
+abbrev pub driversIn : ℕ → List ℕ
+driversIn phase = driverOf phase address ∷ driverOf phase statusLines ∷ driverOf phase dataOut ∷ driverOf phase control ∷ []

@@ -6,14 +6,11 @@ use mathlib.Core.List.{List, [], _∷_}
 use lib.ListN.{replicate}
 use Rattle.phases.specs.Phase as Phase
 use Rattle.phases.specs.Signal.{HOLD, pHLDA, ADSB, SDSB, DODSB, CDSB, signalsIn}
-use Rattle.phases.specs.Driver.{address, statusLines, dataOut, control, noDriver, permanent, card, both, driverOf}
+use Rattle.phases.specs.Driver.{address, statusLines, dataOut, control, noDriver, permanent, card, both, driverOf, driversIn}
 use Rattle.phases.specs.Status.{sMEMR, sM1, sINP, sOUT, sWO, statusOf}
 use Rattle.phases.specs.Control.{pSYNC, pSTVAL, pDBIN, pWR, controlIn, isMWRT}
 
 -- ---- Who drives address, status, data-out and control (01, "State and phases")
-
-abbrev pub driversIn : ℕ → List ℕ
-driversIn phase = driverOf phase address ∷ driverOf phase statusLines ∷ driverOf phase dataOut ∷ driverOf phase control ∷ []
 
 pub record DriverTable : Type 0 where
   pub groups : address ∷ statusLines ∷ dataOut ∷ control ∷ [] ≡ 0 ∷ 1 ∷ 2 ∷ 3 ∷ []

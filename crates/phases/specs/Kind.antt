@@ -1,5 +1,7 @@
 -- The fifteen kinds of events, as 01 numbers them in "Events".
 use Prim.Native.Nat.{ℕ}
+use mathlib.Core.Bool.{Bool, _&&_, _||_}
+use lib.Dec.{eqb, leb}
 
 abbrev pub request : ℕ
 request = 0x01
@@ -49,3 +51,14 @@ giveBack = 0x0E
 
 abbrev pub reset : ℕ
 reset = 0x0F
+
+-- ---- Which of the cycles it is
+
+abbrev pub isOfMemory : ℕ → Bool
+isOfMemory kind = leb byteRead kind && leb kind wordWrite
+
+abbrev pub isWord : ℕ → Bool
+isWord kind = eqb kind wordRead || eqb kind wordWrite
+
+abbrev pub isOfPorts : ℕ → Bool
+isOfPorts kind = eqb kind input || eqb kind output

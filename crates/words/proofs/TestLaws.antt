@@ -25,6 +25,11 @@ pub either-of : (a b : Bool) → (a || b) ≡ true → (a ≡ true) ⊎ (b ≡ t
 either-of true b e = inl refl
 either-of false b e = inr e
 
+-- and one that fails: neither does
+pub neither-of : (a b : Bool) → (a || b) ≡ false → (a ≡ false) × (b ≡ false)
+neither-of true b e = absurd (true≢false e)
+neither-of false b e = (refl, e)
+
 -- `not a || b` is how a test says 'if a then b': where it holds, and a does, b does
 pub then-of : (a b : Bool) → (not a || b) ≡ true → a ≡ true → b ≡ true
 then-of true b e h = e

@@ -1,13 +1,8 @@
--- From what the calls ensure.
+-- From what the call ensures.
 use borrow.Author.Needs.{needs}
 use Rattle.judgement.proofs.reasons.is_malformed.Statement.{statement}
 use Rattle.judgement.proofs.reasons.is_malformed.Tie as tie
 
 pub is-malformed-spec : {M : Type 1} → statement M
-is-malformed-spec =
-    tie.close
-    (tie.spec
-    (λ c κs. search needs)
-    (λ c κs. search needs)
-    (λ c κs. search needs)
-    (λ c. rw (c .before .before .before .before .before .before .lists-speaker .ensures, c .before .before .before .before .lists-address .ensures, c .before .before .lists-datum .ensures)))
+is-malformed-spec = 
+    tie.close (tie.spec (λ c κs. search needs) (λ c. rw (c .before .has-stray-field .ensures)))
