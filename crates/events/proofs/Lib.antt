@@ -4,6 +4,7 @@ pub mod AnswerLaws
 pub mod CycleLaws
 pub mod EachCycle
 pub mod EachStep
+pub mod EitherPage
 pub mod Refused
 pub mod Stays
 pub mod StepLaws

@@ -4,7 +4,7 @@ use Rattle.judgement.proofs.reasons.has_stray_field.Statement.{statemen
 use Rattle.judgement.proofs.reasons.has_stray_field.Tie as tie
 
 pub has-stray-field-spec : {M : Type 1} → statement M
-has-stray-field-spec = 
+has-stray-field-spec =
     tie.close
     (tie.spec
     (λ c κs. search needs)

@@ -4,5 +4,5 @@ use Rattle.judgement.proofs.reasons.names_nobody.Statement.{statement}
 use Rattle.judgement.proofs.reasons.names_nobody.Tie as tie
 
 pub names-nobody-spec : {M : Type 1} → statement M
-names-nobody-spec = 
+names-nobody-spec =
     tie.close (tie.spec (λ c κs. search needs) (λ c. rw (c .some-card .ensures)))

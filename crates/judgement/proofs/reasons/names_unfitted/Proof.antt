@@ -4,7 +4,7 @@ use Rattle.judgement.proofs.reasons.names_unfitted.Statement.{statement
 use Rattle.judgement.proofs.reasons.names_unfitted.Tie as tie
 
 pub names-unfitted-spec : {M : Type 1} → statement M
-names-unfitted-spec = 
+names-unfitted-spec =
     tie.close
     (tie.spec
     (λ c κs. search needs)

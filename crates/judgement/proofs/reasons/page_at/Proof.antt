@@ -5,7 +5,7 @@ use Rattle.judgement.proofs.reasons.page_at.Statement.{statement}
 use Rattle.judgement.proofs.reasons.page_at.Tie as tie
 
 pub page-at-spec : {M : Type 1} → statement M
-page-at-spec = 
+page-at-spec =
     tie.close
     (tie.spec
     (λ c. search needs)

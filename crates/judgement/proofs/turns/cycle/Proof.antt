@@ -6,7 +6,7 @@ use Rattle.judgement.proofs.turns.cycle.Statement.{statement}
 use Rattle.judgement.proofs.turns.cycle.Tie as tie
 
 pub cycle-spec : {M : Type 1} → statement M
-cycle-spec = 
+cycle-spec =
     tie.close
     (tie.spec
     (λ c κs. search needs)

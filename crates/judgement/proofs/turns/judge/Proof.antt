@@ -6,7 +6,7 @@ use Rattle.judgement.proofs.turns.judge.Statement.{statement}
 use Rattle.judgement.proofs.turns.judge.Tie as tie
 
 pub judge-spec : {M : Type 1} → statement M
-judge-spec = 
+judge-spec =
     tie.close
     (tie.spec
     (λ c κs. search needs)

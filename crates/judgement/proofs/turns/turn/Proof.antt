@@ -16,7 +16,7 @@ use Rattle.judgement.proofs.turns.turn.Tie as tie
 
 pub turn-spec : {M : Type 1} → statement M
 unfolding rowIn
-turn-spec = 
+turn-spec =
     tie.close
     (tie.spec
     (λ c κs. search needs)
