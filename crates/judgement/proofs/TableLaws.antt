@@ -1,10 +1,11 @@
 -- The columns of the table, computed over all kinds that a byte can say, and the pages.
-use Prim.Native.Nat.{ℕ, suc, _+_, _/_, _<_, _≤_}
+use Prim.Native.Nat.{ℕ, suc, _/_, _<_, _≤_, zero-le}
 use mathlib.Core.Path.{_≡_, refl, sym, subst}
 use mathlib.Core.Logic.{⊎-elim}
 use mathlib.Core.Bool.{Bool, false, _&&_, _||_}
 use mathlib.Core.List.{List}
 use native.Mathlib.Nat.{eq-or-lt-of-le}
+use native.Mathlib.Decide.{decLt}
 use native.Mathlib.Omega.{arith}
 use lib.Dec.{eqb, leb, lit≤}
 use lib.ListN.{length, List·getD-eq-default}
@@ -72,13 +73,36 @@ past-five kind h n1 n2 n3 n4 n5 = past n5 (past n4 (past n3 (past n2 (past n1 h)
     past : {k : ℕ} → (kind ≡ k → ⊥) → k ≤ kind → suc k ≤ kind
     past other l = ⊎-elim (λ e. absurd (other (sym e))) (λ m. m) (eq-or-lt-of-le l)
 
+-- what holds of a number, and of those above it, holds of those from it on
+from-on : (P : ℕ → Type 0) (n k : ℕ) → P k → (k < n → P n) → k ≤ n → P n
+from-on P n k here above l = ⊎-elim (λ e. subst P e here) above (eq-or-lt-of-le l)
+
 -- what holds of the seven kinds of cycles holds of a kind that is one
 pub each-cycle : (P : ℕ → Type 0) → P 0x06 → P 0x07 → P 0x08 → P 0x09 → P 0x0A → P 0x0B → P 0x0C → (kind : ℕ) → 0x06 ≤ kind → kind ≤ 0x0C → P kind
 each-cycle P p6 p7 p8 p9 pA pB pC kind low high =
-    up 0x06 p6 (up 0x07 p7 (up 0x08 p8 (up 0x09 p9 (up 0x0A pA (up 0x0B pB (up 0x0C pC (λ l. absurd (omega (arith, l))))))))) low
+    on 0x06 p6 (on 0x07 p7 (on 0x08 p8 (on 0x09 p9 (on 0x0A pA (on 0x0B pB (on 0x0C pC (λ l. absurd (omega (arith, l))))))))) low
   where
-    up : (k : ℕ) → P k → (k + 1 ≤ kind → P kind) → k ≤ kind → P kind
-    up k here further l = ⊎-elim (λ e. subst P e here) (λ m. further (let n : k + 1 ≤ kind = omega (arith, m) in n)) (eq-or-lt-of-le l)
+    on : (k : ℕ) → P k → (k < kind → P kind) → k ≤ kind → P kind
+    on = from-on P kind
+
+-- and what holds of all kinds, and of every other number, holds of any
+pub each-kind : (P : ℕ → Type 0) → P 0x00 → P 0x01 → P 0x02 → P 0x03 → P 0x04 → P 0x05 → ((kind : ℕ) → 0x06 ≤ kind → kind ≤ 0x0C → P kind) → P 0x0D → P 0x0E → P 0x0F
+    → ((kind : ℕ) → 0x0F < kind → P kind) → (kind : ℕ) → P kind
+each-kind P p0 p1 p2 p3 p4 p5 cycle pD pE pF other kind =
+    on 0x00 p0 (on 0x01 p1 (on 0x02 p2 (on 0x03 p3 (on 0x04 p4 (on 0x05 p5 cycles))))) zero-le
+  where
+    on : (k : ℕ) → P k → (k < kind → P kind) → k ≤ kind → P kind
+    on = from-on P kind
+
+    later : 0x0D ≤ kind → P kind
+    later = on 0x0D pD (on 0x0E pE (on 0x0F pF (other kind)))
+
+    cycles : 0x05 < kind → P kind
+    cycles l = go (decLt 0x0C kind)
+      where
+        go : Dec (0x0C < kind) → P kind
+        go (yes h) = later h
+        go (no h) = cycle kind l (omega (arith, h))
 
 -- the row of a cycle
 pub record CycleRow (row : Row) : Type 0 where

@@ -1,0 +1,84 @@
+-- What a run leaves of an arbitration that goes on: the bus after its accepted looks, and nothing else.
+use Prim.Native.Nat.{ℕ, _<_, _≤_}
+use mathlib.Core.Path.{_≡_, refl, sym, subst, ap, _∙_}
+use mathlib.Core.Bool.{Bool, true, false, not, cond, true≢false}
+use mathlib.Core.List.{List, [], _∷_, _++_}
+use lib.Dec.{eqb}
+use borrow.Author.Tests.{eqb-true, eqb-false, ne-eqb}
+use native.Mathlib.Omega.{arith}
+use Rattle.phases.specs.Phase as Phase
+use Rattle.phases.specs.Kind as Kind
+use Rattle.bus.specs.Steps.{lookedBy, afterLooksOf}
+use Rattle.bus.specs.declared.state.Bus.{Bus}
+use Rattle.bus.proofs.Granting.{looks-drive}
+use Rattle.bus.proofs.LookRuns.{looks-append as bus-looks-append}
+use Rattle.judgement.specs.Table.{Row, rowOf, rowIn}
+use Rattle.judgement.specs.declared.event.Event.{Event}
+use Rattle.judgement.specs.declared.turns.Verdict.{Verdict}
+use Rattle.judgement.proofs.TableLaws.{each-kind, cycle-row, no-row}
+use Rattle.events.specs.Machine.{Machine}
+use Rattle.events.specs.Step.{stepBy, takenBy, refusalIn, after}
+use Rattle.events.proofs.AcceptedLaws.{phase-allows, leaves-taken}
+use Rattle.events.proofs.Refused.{refused-keeps}
+use Rattle.runs.specs.Run.{afterAll, isAccepted, acceptedOf, speakersOf, looksIn, GoesOn}
+use Rattle.runs.proofs.RunLaws.{looks-append, goes-on}
+
+-- the look that an event of a kind is, if it is one
+lookOf : ℕ → Event → List ℕ
+lookOf kind event = cond (eqb kind Kind.look) (event .speaker ∷ []) []
+
+-- an event of a kind that arbitration allows, and that doesn't end it, leaves the bus after that look
+by-kind : (bus : Bus) (event : Event) (kind : ℕ) → rowOf kind .allows Phase.arbitration ≡ true → eqb kind Kind.acknowledge ≡ false → eqb kind Kind.reset ≡ false
+    → stepBy (rowOf kind .step) bus event ≡ afterLooksOf bus (lookOf kind event)
+unfolding rowIn afterLooksOf lookOf
+by-kind bus event =
+    each-kind (λ k. rowOf k .allows Phase.arbitration ≡ true → eqb k Kind.acknowledge ≡ false → eqb k Kind.reset ≡ false → stepBy (rowOf k .step) bus event ≡ afterLooksOf bus (lookOf k event))
+    (λ a g r. absurd (true≢false (sym a)))
+    (λ a g r. absurd (true≢false (sym a)))
+    (λ a g r. refl)
+    (λ a g r. absurd (true≢false g))
+    (λ a g r. absurd (true≢false (sym a)))
+    (λ a g r. absurd (true≢false (sym a)))
+    (λ k low high a g r.
+    let other : eqb k Kind.look ≡ false = ne-eqb k Kind.look (λ e. omega (arith, e, low)) in
+    ap (λ (v : Verdict). stepBy v bus event) (cycle-row k low high .step) ∙ rw other)
+    (λ a g r. absurd (true≢false (sym a)))
+    (λ a g r. absurd (true≢false (sym a)))
+    (λ a g r. absurd (true≢false r))
+    (λ k h a g r. absurd (true≢false (sym (sym (ap (λ (x : Row). x .allows Phase.arbitration) (no-row k h)) ∙ a))))
+
+-- the same of an event that may be refused
+one-event : (m : Machine) (event : Event) → m .bus .phase ≡ Phase.arbitration
+    → (isAccepted m event ≡ true → (eqb (event .kind) Kind.acknowledge ≡ false) × (eqb (event .kind) Kind.reset ≡ false))
+    → after m event .bus ≡ afterLooksOf (m .bus) (looksIn m (event ∷ []))
+unfolding acceptedOf speakersOf lookOf afterLooksOf
+one-event m event phase stays = go (isAccepted m event) refl
+  where
+    go : (b : Bool) → isAccepted m event ≡ b → after m event .bus ≡ afterLooksOf (m .bus) (speakersOf Kind.look (cond b (event ∷ []) []))
+    go true e =
+        let ok = eqb-true (refusalIn m event) 0 e in
+        ap (λ (x : Machine). x .bus) (leaves-taken m event ok)
+        ∙ by-kind (m .bus) event (event .kind) (subst (λ (p : ℕ). rowOf (event .kind) .allows p ≡ true) phase (phase-allows m event ok (event .kind) refl)) (stays e .0) (stays e .1)
+    go false e = ap (λ (x : Machine). x .bus) (refused-keeps m event (eqb-false (refusalIn m event) 0 e))
+
+-- looks leave the phase, the contenders and what is granted
+looks-keep : (bus : Bus) → bus .phase ≡ Phase.arbitration → (looks : List ℕ)
+    → (afterLooksOf bus looks .phase ≡ Phase.arbitration) × (afterLooksOf bus looks .contenders ≡ bus .contenders)
+looks-keep bus phase looks = let same = looks-drive bus phase looks in (ap (λ (b : Bus). b .phase) same ∙ phase, ap (λ (b : Bus). b .contenders) same)
+
+-- and so of a whole run
+pub run-looks : (events : List Event) (m : Machine) → m .bus .phase ≡ Phase.arbitration → GoesOn m events
+    → afterAll m events .bus ≡ afterLooksOf (m .bus) (looksIn m events)
+unfolding afterAll acceptedOf speakersOf afterLooksOf
+run-looks [] m phase on = refl
+run-looks (event ∷ events) m phase on =
+    run-looks events (after m event) (ap (λ (b : Bus). b .phase) first ∙ looks-keep (m .bus) phase (looksIn m (event ∷ [])) .0) (here .1)
+    ∙ ap (λ (b : Bus). afterLooksOf b (looksIn (after m event) events)) first
+    ∙ sym (bus-looks-append (m .bus) (looksIn m (event ∷ [])) (looksIn (after m event) events))
+    ∙ ap (afterLooksOf (m .bus)) (sym (looks-append m (event ∷ []) events))
+  where
+    here : (isAccepted m event ≡ true → (eqb (event .kind) Kind.acknowledge ≡ false) × (eqb (event .kind) Kind.reset ≡ false)) × GoesOn (after m event) events
+    here = goes-on m event events on
+
+    first : after m event .bus ≡ afterLooksOf (m .bus) (looksIn m (event ∷ []))
+    first = one-event m event phase (here .0)
