@@ -82,3 +82,10 @@ run-looks (event ∷ events) m phase on =
 
     first : after m event .bus ≡ afterLooksOf (m .bus) (looksIn m (event ∷ []))
     first = one-event m event phase (here .0)
+
+pub run-keeps : (events : List Event) (m : Machine) → m .bus .phase ≡ Phase.arbitration → GoesOn m events
+    → (afterAll m events .bus .phase ≡ Phase.arbitration) × (afterAll m events .bus .contenders ≡ m .bus .contenders)
+run-keeps events m phase on =
+    let left = run-looks events m phase on in
+    let kept = looks-keep (m .bus) phase (looksIn m events) in
+    (ap (λ (b : Bus). b .phase) left ∙ kept .0, ap (λ (b : Bus). b .contenders) left ∙ kept .1)

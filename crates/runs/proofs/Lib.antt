@@ -1,3 +1,5 @@
 -- Laws of runs, and the promises' proofs.
 pub mod ArbitrationRuns
+pub mod DemandThree
+pub mod Grants
 pub mod RunLaws
