@@ -1,5 +1,7 @@
 -- Laws of runs, and the promises' proofs.
 pub mod ArbitrationRuns
+pub mod AsComputed
+pub mod BusRuns
 pub mod DemandThree
 pub mod Grants
 pub mod RunLaws

@@ -1,0 +1,165 @@
+-- The single runs, computed on the bus, for every memory of the right length.
+use Prim.Native.Nat.{ℕ, _≤_}
+use mathlib.Core.Path.{_≡_, refl, sym, ap, _∙_}
+use mathlib.Core.Bool.{Bool, true, false, not, _||_}
+use mathlib.Core.List.{List, [], _∷_, _++_}
+use lib.Dec.{eqb, ltb}
+use lib.ListN.{getD}
+use borrow.Author.Tests.{le-ltb, not-false}
+use Rattle.words.specs.Below.{allBelow, orBelow}
+use Rattle.words.specs.Among.{isAmong, everyListed}
+use Rattle.words.specs.First.{firstOf, leastBelow}
+use Rattle.lines.specs.Look.{look}
+use Rattle.lines.specs.Arbitration.{everyContender, shown, looked, settled, isRound}
+use Rattle.phases.specs.Phase as Phase
+use Rattle.phases.specs.Kind as Kind
+use Rattle.cards.specs.Cards.{cardIn, someCard, isWithin}
+use Rattle.bus.specs.Refusal as Refusal
+use Rattle.bus.specs.Sense.{drivingFits, makesSense}
+use Rattle.bus.specs.State.{arbitrationOf, linesOf}
+use Rattle.bus.specs.Steps.{afterLooksOf}
+use Rattle.bus.specs.Settle.{settledAfter, leadingLooks, neverSettles, settleRefusal, settleOf}
+use Rattle.bus.specs.declared.settle.Settlement.{Settlement}
+use Rattle.bus.specs.Examples.{fourNineTen, first, again}
+use Rattle.bus.specs.declared.state.Bus.{Bus}
+use Rattle.bus.proofs.AsComputed.{settle-on-the-bus}
+use Rattle.judgement.specs.Table.{rowIn}
+use Rattle.judgement.specs.Refusals.{pageAt}
+use Rattle.judgement.specs.Judge.{soundRefusal}
+use Rattle.judgement.specs.declared.event.Event.{Event}
+use Rattle.events.specs.Machine.{Machine}
+use Rattle.events.specs.Step.{refusalIn, after, answerTo}
+use Rattle.events.specs.declared.answers.Answer.{Answer}
+use Rattle.events.proofs.EachCycle.{word-read-does}
+use Rattle.runs.specs.Run.{afterAll, speakersOf, IsRound}
+use Rattle.runs.specs.Promises.{acknowledge}
+use Rattle.runs.specs.Examples.{
+  cycle,
+  looks,
+  Right,
+  contending,
+  roundOne,
+  roundTwo,
+  roundThree,
+  threeRounds,
+  ThreeRoundsFallShort,
+  ThreeRounds,
+  LinesAfter,
+  AtRest,
+  Present,
+  Marked,
+}
+use Rattle.runs.proofs.BusRuns.{Sound, busAfter, busAfterAll, acceptedOn, sound-refusal, sound-after, sound-run, run-of-the-bus, accepted-on-the-bus}
+
+contending-sound : (memory ports : List ℕ) → Right memory ports → Sound (contending memory ports)
+unfolding allBelow someCard isWithin everyListed drivingFits makesSense
+contending-sound memory ports right = record { right = right; sense = refl }
+
+-- ---- Three rounds
+
+-- a stretch is a round if it is one on the bus
+round-on : (before round : List Event) (m : Machine) → Sound m
+    → isRound (arbitrationOf (busAfterAll (m .bus) before)) (speakersOf Kind.look (acceptedOn (busAfterAll (m .bus) before) round)) ≡ true
+    → IsRound (afterAll m before) round
+round-on before round m s e =
+    ap (λ (l : List Event). isRound (arbitrationOf (afterAll m before .bus)) (speakersOf Kind.look l)) (accepted-on-the-bus round (afterAll m before) (sound-run before m s))
+    ∙ ap (λ (b : Bus). isRound (arbitrationOf b) (speakersOf Kind.look (acceptedOn b round))) (run-of-the-bus before m s)
+    ∙ e
+
+-- what a run's end shows, as on the bus
+refused-on : (events : List Event) (event : Event) (m : Machine) → Sound m → refusalIn (afterAll m events) event ≡ soundRefusal (busAfterAll (m .bus) events) event
+refused-on events event m s = sound-refusal (afterAll m events) event (sound-run events m s) ∙ ap (λ (b : Bus). soundRefusal b event) (run-of-the-bus events m s)
+
+next-on : (events : List Event) (event : Event) (m : Machine) → Sound m → after (afterAll m events) event .bus ≡ busAfter (busAfterAll (m .bus) events) event
+next-on events event m s = sound-after (afterAll m events) event (sound-run events m s) ∙ ap (λ (b : Bus). busAfter b event) (run-of-the-bus events m s)
+
+pub three-rounds : ThreeRounds
+unfolding afterAll allBelow orBelow look everyContender shown looked settled someCard isWithin isAmong isRound firstOf soundRefusal rowIn busAfterAll acceptedOn speakersOf looks
+three-rounds memory ports right = record {
+  one = round-on [] roundOne m s refl;
+  two = round-on roundOne roundTwo m s refl;
+  three = round-on (roundOne ++ roundTwo) roundThree m s refl;
+  lines = ap linesOf (run-of-the-bus threeRounds m s);
+  nobodys = ap (λ (b : Bus). cardIn (b .contenders) 11) (run-of-the-bus threeRounds m s);
+  refused = refused-on threeRounds acknowledge m s;
+  fourth = ap linesOf (run-of-the-bus (threeRounds ++ looks again) m s);
+  granted = ap (λ (b : Bus). b .granted) (next-on (threeRounds ++ looks again) acknowledge m s);
+}
+  where
+    m : Machine
+    m = contending memory ports
+
+    s : Sound m
+    s = contending-sound memory ports right
+
+-- ---- The marked table
+
+lines-after : (cards : List ℕ) (lines : ℕ) → linesOf (busAfterAll fourNineTen (looks cards)) ≡ lines → LinesAfter cards lines
+lines-after cards lines e memory ports right = ap linesOf (run-of-the-bus (looks cards) (contending memory ports) (contending-sound memory ports right)) ∙ e
+
+-- at rest, a refusal is that of the bus
+rest-refusal : (m : Machine) → AtRest m → (event : Event) → refusalIn m event ≡ soundRefusal (m .bus) event
+rest-refusal m rest event = sound-refusal m event (record { right = rest .right; sense = rest .sense })
+
+module _ (m : Machine) (rest : AtRest m) where
+  word-read-accepted : pageAt (m .bus .pages) 0x000002 ≡ 1 → refusalIn m (cycle Kind.wordRead 0x000002 0) ≡ 0
+  unfolding soundRefusal firstOf rowIn
+  word-read-accepted page = rest-refusal m rest (cycle Kind.wordRead 0x000002 0) ∙ rw (rest .free, page)
+
+  word-write-accepted : Present m 0x001FFE → (datum : ℕ) → refusalIn m (cycle Kind.wordWrite 0x001FFE datum) ≡ 0
+  unfolding soundRefusal firstOf rowIn
+  word-write-accepted present datum = rest-refusal m rest (cycle Kind.wordWrite 0x001FFE datum) ∙ rw (rest .free, present)
+
+  odd-read : refusalIn m (cycle Kind.wordRead 0x001001 0) ≡ Refusal.oddWord
+  unfolding soundRefusal firstOf rowIn
+  odd-read = rest-refusal m rest (cycle Kind.wordRead 0x001001 0) ∙ rw (rest .free)
+
+  odd-write : (datum : ℕ) → refusalIn m (cycle Kind.wordWrite 0x001001 datum) ≡ Refusal.oddWord
+  unfolding soundRefusal firstOf rowIn
+  odd-write datum = rest-refusal m rest (cycle Kind.wordWrite 0x001001 datum) ∙ rw (rest .free)
+
+  last-byte : Present m 0x00FFFF → refusalIn m (cycle Kind.byteRead 0x00FFFF 0) ≡ 0
+  unfolding soundRefusal firstOf rowIn
+  last-byte present = rest-refusal m rest (cycle Kind.byteRead 0x00FFFF 0) ∙ rw (rest .free, present)
+
+  past-memory : refusalIn m (cycle Kind.byteRead 0x010000 0) ≡ Refusal.absent
+  unfolding soundRefusal firstOf rowIn
+  past-memory = rest-refusal m rest (cycle Kind.byteRead 0x010000 0) ∙ rw (rest .free)
+
+  ports-in : (refusalIn m (cycle Kind.input 0x0000FF 0) ≡ 0) × (refusalIn m (cycle Kind.input 0x000100 0) ≡ Refusal.absent)
+  unfolding soundRefusal firstOf rowIn
+  ports-in = (rest-refusal m rest (cycle Kind.input 0x0000FF 0) ∙ rw (rest .free), rest-refusal m rest (cycle Kind.input 0x000100 0) ∙ rw (rest .free))
+
+  ports-out : (datum : ℕ) → datum ≤ 0xFF → (refusalIn m (cycle Kind.output 0x0000FF datum) ≡ 0) × (refusalIn m (cycle Kind.output 0x000100 datum) ≡ Refusal.absent)
+  unfolding soundRefusal firstOf rowIn
+  ports-out datum byte = (
+    rest-refusal m rest (cycle Kind.output 0x0000FF datum) ∙ rw (le-ltb 0xFF datum byte, rest .free),
+    rest-refusal m rest (cycle Kind.output 0x000100 datum) ∙ rw (le-ltb 0xFF datum byte, rest .free),
+  )
+
+  word-read-answer : pageAt (m .bus .pages) 0x000002 ≡ 1 → getD (m .memory) 0x000002 0 ≡ 0x12 → getD (m .memory) 0x000003 0 ≡ 0x34
+      → (answerTo m (cycle Kind.wordRead 0x000002 0) .refusal ≡ Refusal.accepted)
+      × ((answerTo m (cycle Kind.wordRead 0x000002 0) .datum ≡ 0x1234) × (answerTo m (cycle Kind.wordRead 0x000002 0) .cycles ≡ 2))
+  word-read-answer page even odd =
+      let answer = word-read-does m (cycle Kind.wordRead 0x000002 0) (refl, word-read-accepted page) false (ap (λ (code : ℕ). eqb code 2) page) .answers in (
+        ap (λ (a : Answer). a .refusal) answer,
+        (ap (λ (a : Answer). a .datum) answer ∙ rw (even, odd), ap (λ (a : Answer). a .cycles) answer),
+      )
+
+pub marked : Marked
+unfolding allBelow orBelow look everyContender shown looked settled someCard isWithin isAmong firstOf soundRefusal rowIn busAfterAll looks everyListed drivingFits makesSense leastBelow afterLooksOf settledAfter leadingLooks neverSettles settleRefusal settleOf
+marked = record {
+  m1 = lines-after first 12 refl;
+  m2 = lines-after (first ++ again) 8 refl;
+  m3 = lines-after (first ++ again ++ again) 11 refl;
+  m4 = lines-after (first ++ again ++ again ++ again) 10 refl;
+  m5 = (settle-on-the-bus .twelveAccepted, settle-on-the-bus .twelve);
+  m6 = ap (λ (s : Settlement). s .answer) (settle-on-the-bus .nine);
+  m7 = (refl, refl);
+  m8 = (refl, refl);
+  m9 = word-read-answer;
+  m10 = λ m rest. (odd-read m rest, odd-write m rest);
+  m11 = word-write-accepted;
+  m12 = λ m rest. (last-byte m rest, past-memory m rest);
+  m13 = λ m rest. (ports-in m rest, ports-out m rest);
+}
