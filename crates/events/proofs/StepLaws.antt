@@ -14,7 +14,7 @@ use Rattle.judgement.specs.Table.{rowOf}
 use Rattle.judgement.specs.Judge.{soundRefusal, refusalOf, numberOf, soundVerdict}
 use Rattle.judgement.specs.declared.event.Event.{Event}
 use Rattle.judgement.specs.declared.turns.Verdict.{Verdict}
-use Rattle.judgement.proofs.Passed.{verdict-number, accepted-verdict, sound-call}
+use Rattle.judgement.proofs.Passed.{verdict-number, verdict-step, sound-call}
 use Rattle.events.specs.Machine.{Machine, machine}
 use Rattle.events.specs.Answers.{refusedWith}
 use Rattle.events.specs.Step.{stepBy, takenBy, answerBy, stepped, refusalIn, after, answerTo, soundAfter, soundAnswer}
@@ -40,7 +40,7 @@ module _ (m : Machine) (event : Event) where
       none = sym (verdict-number (m .bus) event) ∙ ap numberOf (sym v) ∙ sym n ∙ zero
 
       step : verdict ≡ rowOf (event .kind) .step
-      step = v ∙ accepted-verdict (m .bus) event none
+      step = v ∙ verdict-step (m .bus) event none
 
   pub sound-refused : (verdict : Verdict) (number : ℕ) → verdict ≡ soundVerdict (m .bus) event → number ≡ numberOf verdict → (number ≡ 0 → ⊥)
       → (result : Stepped) → result ≡ stepped (m .bus) (refusedWith number (m .bus))

@@ -22,6 +22,7 @@ use Rattle.judgement.specs.Refusals.{
   isAbsent,
 }
 use Rattle.judgement.specs.Judge.{turnReasons, soundReasons, reasonsAgainst, soundRefusal, refusalOf, numberOf, verdictOn, soundVerdict}
+use Rattle.judgement.specs.Promises.{VerdictNumber, VerdictStep}
 use Rattle.judgement.specs.declared.event.Event.{Event}
 use Rattle.judgement.proofs.TurnLaws.{steps-of-table}
 
@@ -77,17 +78,18 @@ module _ (bus : Bus) (event : Event) where
       let r2 = first-none _ _ refl (r1 .1) in
       (r1 .0, (r2 .0, r2 .1))
 
-  -- the step of an accepted event is its kind's, and its number 0
-  pub verdict-number : numberOf (soundVerdict bus event) ≡ soundRefusal bus event
-  unfolding soundVerdict
-  verdict-number = go (eqb (soundRefusal bus event) 0) refl
-    where
-      go : (b : Bool) → eqb (soundRefusal bus event) 0 ≡ b → numberOf (verdictOn (soundRefusal bus event) event) ≡ soundRefusal bus event
-      go true e =
-          let none = eqb-true (soundRefusal bus event) 0 e in
-          rw e (steps-of-table (event .kind) (bus .phase) (not-false _ (passed none .phase)) ∙ sym none)
-      go false e = rw e
+-- ---- The verdict
 
-  pub accepted-verdict : soundRefusal bus event ≡ 0 → soundVerdict bus event ≡ rowOf (event .kind) .step
-  unfolding soundVerdict
-  accepted-verdict e = rw e
+pub verdict-number : VerdictNumber
+unfolding soundVerdict
+verdict-number bus event = go (eqb (soundRefusal bus event) 0) refl
+  where
+    go : (b : Bool) → eqb (soundRefusal bus event) 0 ≡ b → numberOf (verdictOn (soundRefusal bus event) event) ≡ soundRefusal bus event
+    go true e =
+        let none = eqb-true (soundRefusal bus event) 0 e in
+        rw e (steps-of-table (event .kind) (bus .phase) (not-false _ (passed bus event none .phase)) ∙ sym none)
+    go false e = rw e
+
+pub verdict-step : VerdictStep
+unfolding soundVerdict
+verdict-step bus event e = rw e

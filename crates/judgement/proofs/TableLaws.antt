@@ -15,6 +15,7 @@ use Rattle.words.proofs.BelowLaws.{same-tests-below}
 use Rattle.phases.specs.Control.{allowsCycles}
 use Rattle.judgement.specs.Table.{Row, row, master, rowOf, rowIn, noRow, listsSpeaker, listsAddress, listsDatum}
 use Rattle.judgement.specs.Refusals.{pageAt}
+use Rattle.judgement.specs.Promises.{EachKindHasItsRow}
 use Rattle.judgement.specs.declared.turns.Verdict.the-variants.{Cycle}
 
 pub speaker-column : (kind : ℕ) → kind < 256 → (eqb kind 0x02 || leb 0x04 kind && leb kind 0x0E) ≡ listsSpeaker kind
@@ -116,3 +117,16 @@ cycle-row = each-cycle (λ k. CycleRow (rowOf k)) same same same same same same 
   where
     same : {s d : Bool} {k : ℕ} → CycleRow (row k master s d allowsCycles Cycle)
     same = record { speaker = refl; step = refl; allows = refl }
+
+pub each-kind-has-its-row : EachKindHasItsRow
+unfolding rowIn
+each-kind-has-its-row =
+    each-kind (λ k. 0x01 ≤ k → k ≤ 0x0F → rowOf k .kind ≡ k) (λ low high. absurd (omega (arith, low))) (λ low high. refl) (λ low high. refl) (λ low high. refl)
+    (λ low high. refl)
+    (λ low high. refl)
+    (each-cycle (λ k. 0x01 ≤ k → k ≤ 0x0F → rowOf k .kind ≡ k) (λ low high. refl) (λ low high. refl) (λ low high. refl) (λ low high. refl) (λ low high. refl) (λ low high. refl)
+    (λ low high. refl))
+    (λ low high. refl)
+    (λ low high. refl)
+    (λ low high. refl)
+    (λ k above low high. absurd (omega (arith, above, high)))

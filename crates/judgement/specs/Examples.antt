@@ -1,1 +1,130 @@
--- Computed cases of the table.
+-- The event table read the other way round, and events on small states, each with the refusal that 01 gives it or 0.
+use Prim.Native.Nat.{ℕ, zero, suc}
+use mathlib.Core.Path.{_≡_}
+use mathlib.Core.Bool.{Bool, true, false, cond}
+use mathlib.Core.List.{List, [], _∷_}
+use lib.ListN.{replicate, set}
+use Rattle.phases.specs.Phase as Phase
+use Rattle.bus.specs.State.{freeBus, nobody, silent, stateOf}
+use Rattle.bus.specs.declared.state.Bus.{Bus}
+use Rattle.judgement.specs.Table.{rowOf, listsSpeaker, listsAddress, listsDatum}
+use Rattle.judgement.specs.Judge.{soundRefusal}
+use Rattle.judgement.specs.declared.event.Event.{Event}
+
+-- ---- Columns
+
+-- of the numbers 00 to 10, those that pass
+unfoldable pub kindsBelow : (ℕ → Bool) → ℕ → List ℕ
+kindsBelow test zero = []
+kindsBelow test (suc k) = cond (test k) (k ∷ kindsBelow test k) (kindsBelow test k)
+
+abbrev pub kindsOf : (ℕ → Bool) → List ℕ
+kindsOf test = kindsBelow test 0x11
+
+pub record Columns : Type 0 where
+  pub speaker : kindsOf listsSpeaker ≡ 0x0E ∷ 0x0D ∷ 0x0C ∷ 0x0B ∷ 0x0A ∷ 0x09 ∷ 0x08 ∷ 0x07 ∷ 0x06 ∷ 0x05 ∷ 0x04 ∷ 0x02 ∷ []
+  pub address : kindsOf listsAddress ≡ 0x0C ∷ 0x0B ∷ 0x0A ∷ 0x09 ∷ 0x08 ∷ 0x07 ∷ 0x06 ∷ []
+  pub datum : kindsOf listsDatum ≡ 0x0C ∷ 0x0A ∷ 0x08 ∷ 0x01 ∷ []
+  -- the kinds that each phase allows
+  pub free : kindsOf (λ k. rowOf k .allows Phase.free) ≡ 0x0F ∷ 0x0C ∷ 0x0B ∷ 0x0A ∷ 0x09 ∷ 0x08 ∷ 0x07 ∷ 0x06 ∷ 0x01 ∷ []
+  pub arbitration : kindsOf (λ k. rowOf k .allows Phase.arbitration) ≡ 0x0F ∷ 0x0C ∷ 0x0B ∷ 0x0A ∷ 0x09 ∷ 0x08 ∷ 0x07 ∷ 0x06 ∷ 0x03 ∷ 0x02 ∷ []
+  pub granted : kindsOf (λ k. rowOf k .allows Phase.granted) ≡ 0x0F ∷ 0x04 ∷ []
+  pub transferOne : kindsOf (λ k. rowOf k .allows Phase.transferOne) ≡ 0x0F ∷ 0x05 ∷ []
+  pub owned : kindsOf (λ k. rowOf k .allows Phase.owned) ≡ 0x0F ∷ 0x0D ∷ 0x0C ∷ 0x0B ∷ 0x0A ∷ 0x09 ∷ 0x08 ∷ 0x07 ∷ 0x06 ∷ []
+  pub transferTwo : kindsOf (λ k. rowOf k .allows Phase.transferTwo) ≡ 0x0F ∷ 0x0E ∷ []
+
+-- ---- States: cards 1 and 3 fitted; page 0 has eight bits, page 1 sixteen, and there are no others
+
+abbrev pub codes : List ℕ
+codes = 1 ∷ 2 ∷ replicate 14 0
+
+abbrev pub free : Bus
+free = freeBus 0x000A codes
+
+-- both contend, and the lines show 3, card 3's number; card 1 has yet to take back its 1
+abbrev pub unsettled : Bus
+unsettled = stateOf 0x000A codes Phase.arbitration 0x000A (set (set silent 1 1) 3 3) nobody
+
+abbrev pub settled : Bus
+settled = stateOf 0x000A codes Phase.arbitration 0x000A (set silent 3 3) nobody
+
+-- card 0, fitted instead, contends alone, and the lines stay at 0
+abbrev pub zeroAlone : Bus
+zeroAlone = stateOf 0x0001 codes Phase.arbitration 0x0001 silent nobody
+
+-- card 3 is granted, in this phase
+abbrev pub hold : ℕ → Bus
+hold phase = stateOf 0x000A codes phase 0 silent 3
+
+-- ---- Events and their refusals
+
+-- the refusal of an event with these fields
+abbrev pub judged : Bus → ℕ → ℕ → ℕ → ℕ → ℕ
+judged bus kind speaker address datum = soundRefusal bus (record { kind = kind; speaker = speaker; address = address; datum = datum })
+
+pub record Fields : Type 0 where
+  pub kindZero : judged free 0x00 0 0 0 ≡ 0x03
+  pub kindTen : judged free 0x10 0 0 0 ≡ 0x03
+  pub speakerAbove : judged free 0x06 0x11 0 0 ≡ 0x03
+  pub strangeSpeaker : judged free 0x01 0x10 0 0x0002 ≡ 0x03
+  pub strangeAddress : judged free 0x01 0 1 0x0002 ≡ 0x03
+  pub strangeDatum : judged free 0x06 0x10 0 1 ≡ 0x03
+  pub wideByte : judged free 0x08 0x10 0 0x0100 ≡ 0x03
+  pub wideOutput : judged free 0x0C 0x10 0 0x0100 ≡ 0x03
+  pub byte : judged free 0x08 0x10 0 0x00FF ≡ 0x00
+  pub output : judged free 0x0C 0x10 0 0x00FF ≡ 0x00
+  pub word : judged free 0x0A 0x10 0 0xFFFF ≡ 0x00
+  -- malformed before unfitted
+  pub both : judged free 0x06 2 0 1 ≡ 0x03
+
+pub record Cards : Type 0 where
+  pub request : judged free 0x01 0 0 0x000A ≡ 0x00
+  pub nobody : judged free 0x01 0 0 0x0000 ≡ 0x04
+  pub unfitted : judged free 0x01 0 0 0x0006 ≡ 0x05
+  -- unfitted before the phase, whatever the kind
+  pub look : judged free 0x02 2 0 0 ≡ 0x05
+  pub cycle : judged (hold Phase.granted) 0x06 2 0 0 ≡ 0x05
+  -- the permanent master is no card
+  pub master : judged free 0x06 0x10 0 0 ≡ 0x00
+  pub masterLooks : judged free 0x02 0x10 0 0 ≡ 0x06
+  pub masterLooksThen : judged settled 0x02 0x10 0 0 ≡ 0x07
+
+pub record Turns : Type 0 where
+  pub lookWhenFree : judged free 0x02 1 0 0 ≡ 0x06
+  pub look : judged settled 0x02 1 0 0 ≡ 0x00
+  pub secondRequest : judged settled 0x01 0 0 0x0002 ≡ 0x06
+  pub requestInTransferTwo : judged (hold Phase.transferTwo) 0x01 0 0 0x0002 ≡ 0x06
+  pub acknowledge : judged settled 0x03 0 0 0 ≡ 0x00
+  -- the lines name card 3, and still
+  pub unsettledThree : judged unsettled 0x03 0 0 0 ≡ 0x08
+  pub zeroContends : judged zeroAlone 0x03 0 0 0 ≡ 0x00
+  pub begin : judged (hold Phase.granted) 0x04 3 0 0 ≡ 0x00
+  pub beginOther : judged (hold Phase.granted) 0x04 1 0 0 ≡ 0x07
+  pub takeEarly : judged (hold Phase.granted) 0x05 3 0 0 ≡ 0x06
+  pub take : judged (hold Phase.transferOne) 0x05 3 0 0 ≡ 0x00
+  pub beginTwo : judged (hold Phase.owned) 0x0D 3 0 0 ≡ 0x00
+  pub giveBack : judged (hold Phase.transferTwo) 0x0E 3 0 0 ≡ 0x00
+  pub reset : judged (hold Phase.transferTwo) 0x0F 0 0 0 ≡ 0x00
+  -- whose cycles they are
+  pub cardWhenFree : judged free 0x06 1 0 0 ≡ 0x07
+  pub masterInArbitration : judged settled 0x06 0x10 0 0 ≡ 0x00
+  pub cardWhenGranted : judged (hold Phase.granted) 0x06 3 0 0 ≡ 0x06
+  pub cardOwns : judged (hold Phase.owned) 0x06 3 0 0 ≡ 0x00
+  pub otherCard : judged (hold Phase.owned) 0x06 1 0 0 ≡ 0x07
+  pub masterWhenOwned : judged (hold Phase.owned) 0x06 0x10 0 0 ≡ 0x07
+  -- the phase before the turn
+  pub phaseFirst : judged (hold Phase.transferTwo) 0x06 0x10 0 0 ≡ 0x06
+
+pub record Addresses : Type 0 where
+  pub oddWord : judged free 0x09 0x10 0x001001 0 ≡ 0x09
+  pub oddByte : judged free 0x06 0x10 0x001001 0 ≡ 0x00
+  -- odd before absent, and beyond the memory
+  pub oddAbsent : judged free 0x0A 0x10 0x002001 0x1234 ≡ 0x09
+  pub oddBeyond : judged free 0x09 0x10 0x010001 0 ≡ 0x09
+  pub lastWord : judged free 0x0A 0x10 0x001FFE 0x1234 ≡ 0x00
+  pub absent : judged free 0x06 0x10 0x002000 0 ≡ 0x0A
+  pub absentWord : judged free 0x09 0x10 0x00FFFE 0 ≡ 0x0A
+  pub beyond : judged free 0x08 0x10 0x010000 0x0012 ≡ 0x0A
+  pub lastPort : judged free 0x0B 0x10 0x0000FF 0 ≡ 0x00
+  pub portBeyond : judged free 0x0B 0x10 0x000100 0 ≡ 0x0A
+  pub outBeyond : judged free 0x0C 0x10 0x000100 0x0012 ≡ 0x0A

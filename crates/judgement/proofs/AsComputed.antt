@@ -1,0 +1,78 @@
+-- The small states' events and the columns, by computation.
+use Prim.Native.Nat.{ℕ, _≤_}
+use mathlib.Core.Path.{_≡_, refl}
+use Rattle.words.specs.Below.{allBelow, orBelow}
+use Rattle.words.specs.First.{firstOf}
+use Rattle.lines.specs.Look.{look}
+use Rattle.lines.specs.Arbitration.{everyContender, shown, looked, settled}
+use Rattle.cards.specs.Cards.{someCard, isWithin}
+use Rattle.judgement.specs.Table.{rowIn}
+use Rattle.judgement.specs.Judge.{soundRefusal}
+use Rattle.judgement.specs.Examples.{kindsBelow, Columns, Fields, Cards, Turns, Addresses}
+
+pub columns : Columns
+unfolding rowIn kindsBelow
+columns = record { speaker = refl; address = refl; datum = refl; free = refl; arbitration = refl; granted = refl; transferOne = refl; owned = refl; transferTwo = refl }
+
+pub fields : Fields
+unfolding rowIn firstOf soundRefusal allBelow someCard isWithin
+fields = record {
+  kindZero = refl;
+  kindTen = refl;
+  speakerAbove = refl;
+  strangeSpeaker = refl;
+  strangeAddress = refl;
+  strangeDatum = refl;
+  wideByte = refl;
+  wideOutput = refl;
+  byte = refl;
+  output = refl;
+  word = refl;
+  both = refl;
+}
+
+pub cards : Cards
+unfolding rowIn firstOf soundRefusal allBelow someCard isWithin
+cards = record { request = refl; nobody = refl; unfitted = refl; look = refl; cycle = refl; master = refl; masterLooks = refl; masterLooksThen = refl }
+
+pub turns : Turns
+unfolding rowIn firstOf soundRefusal allBelow orBelow look everyContender shown looked settled someCard isWithin
+turns = record {
+  lookWhenFree = refl;
+  look = refl;
+  secondRequest = refl;
+  requestInTransferTwo = refl;
+  acknowledge = refl;
+  unsettledThree = refl;
+  zeroContends = refl;
+  begin = refl;
+  beginOther = refl;
+  takeEarly = refl;
+  take = refl;
+  beginTwo = refl;
+  giveBack = refl;
+  reset = refl;
+  cardWhenFree = refl;
+  masterInArbitration = refl;
+  cardWhenGranted = refl;
+  cardOwns = refl;
+  otherCard = refl;
+  masterWhenOwned = refl;
+  phaseFirst = refl;
+}
+
+pub addresses : Addresses
+unfolding rowIn firstOf soundRefusal allBelow someCard isWithin
+addresses = record {
+  oddWord = refl;
+  oddByte = refl;
+  oddAbsent = refl;
+  oddBeyond = refl;
+  lastWord = refl;
+  absent = refl;
+  absentWord = refl;
+  beyond = refl;
+  lastPort = refl;
+  portBeyond = refl;
+  outBeyond = refl;
+}
