@@ -1,6 +1,7 @@
 -- Laws that the functions' proofs cite, and the promises' proofs.
 pub mod AcceptedLaws
 pub mod AnswerLaws
+pub mod AsComputed
 pub mod CycleLaws
 pub mod EachCycle
 pub mod EachStep

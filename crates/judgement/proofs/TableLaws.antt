@@ -67,9 +67,14 @@ pub no-row-zero : (kind : ℕ) → kind < 0x01 → rowOf kind ≡ noRow
 unfolding rowIn
 no-row-zero kind h = let none : kind ≡ 0 = omega arith in rw none
 
--- a kind that is none of the first five is past them
-pub past-five : (kind : ℕ) → 0x01 ≤ kind → (kind ≡ 0x01 → ⊥) → (kind ≡ 0x02 → ⊥) → (kind ≡ 0x03 → ⊥) → (kind ≡ 0x04 → ⊥) → (kind ≡ 0x05 → ⊥) → 0x06 ≤ kind
-past-five kind h n1 n2 n3 n4 n5 = past n5 (past n4 (past n3 (past n2 (past n1 h))))
+-- none of the first five, as a match says it
+abbrev pub NoneOfFive : ℕ → Type 0
+NoneOfFive kind =
+    ((((Unit × (kind ≡ 0x01 → ⊥)) × (kind ≡ 0x02 → ⊥)) × (kind ≡ 0x03 → ⊥)) × (kind ≡ 0x04 → ⊥)) × (kind ≡ 0x05 → ⊥)
+
+-- such a kind is past them
+pub past-five : (kind : ℕ) → 0x01 ≤ kind → NoneOfFive kind → 0x06 ≤ kind
+past-five kind h (((((u, n1), n2), n3), n4), n5) = past n5 (past n4 (past n3 (past n2 (past n1 h))))
   where
     past : {k : ℕ} → (kind ≡ k → ⊥) → k ≤ kind → suc k ≤ kind
     past other l = ⊎-elim (λ e. absurd (other (sym e))) (λ m. m) (eq-or-lt-of-le l)

@@ -101,7 +101,7 @@ pub record Turns : Type 0 where
   pub begin : judged (hold Phase.granted) 0x04 3 0 0 ≡ 0x00
   pub beginOther : judged (hold Phase.granted) 0x04 1 0 0 ≡ 0x07
   pub takeEarly : judged (hold Phase.granted) 0x05 3 0 0 ≡ 0x06
-  pub take : judged (hold Phase.transferOne) 0x05 3 0 0 ≡ 0x00
+  pub takeThen : judged (hold Phase.transferOne) 0x05 3 0 0 ≡ 0x00
   pub beginTwo : judged (hold Phase.owned) 0x0D 3 0 0 ≡ 0x00
   pub giveBack : judged (hold Phase.transferTwo) 0x0E 3 0 0 ≡ 0x00
   pub reset : judged (hold Phase.transferTwo) 0x0F 0 0 0 ≡ 0x00

@@ -65,12 +65,12 @@ anyPhase phase = true
 abbrev pub noPhase : ℕ → Bool
 noPhase phase = false
 
--- fields other than the speaker
+-- a field other than the speaker: listed, or to be zero
 abbrev pub listed : Bool
 listed = true
 
-abbrev pub zero : Bool
-zero = false
+abbrev pub blank : Bool
+blank = false
 
 -- ---- The table
 
@@ -89,26 +89,26 @@ row kind speaker address datum allows step =
 abbrev pub table : List Row
 table =
     -- kind, speaker, address, datum, phase, step
-    row Kind.request unlisted zero listed (only Phase.free) Request
-    ∷ row Kind.look contender zero zero (only Phase.arbitration) Look
-    ∷ row Kind.acknowledge unlisted zero zero (only Phase.arbitration) Acknowledge
-    ∷ row Kind.beginTransferOne grantedCard zero zero (only Phase.granted) BeginTransferOne
-    ∷ row Kind.takeBus grantedCard zero zero (only Phase.transferOne) TakeBus
-    ∷ row Kind.byteRead master listed zero allowsCycles Cycle
-    ∷ row Kind.opcodeFetch master listed zero allowsCycles Cycle
+    row Kind.request unlisted blank listed (only Phase.free) Request
+    ∷ row Kind.look contender blank blank (only Phase.arbitration) Look
+    ∷ row Kind.acknowledge unlisted blank blank (only Phase.arbitration) Acknowledge
+    ∷ row Kind.beginTransferOne grantedCard blank blank (only Phase.granted) BeginTransferOne
+    ∷ row Kind.takeBus grantedCard blank blank (only Phase.transferOne) TakeBus
+    ∷ row Kind.byteRead master listed blank allowsCycles Cycle
+    ∷ row Kind.opcodeFetch master listed blank allowsCycles Cycle
     ∷ row Kind.byteWrite master listed listed allowsCycles Cycle
-    ∷ row Kind.wordRead master listed zero allowsCycles Cycle
+    ∷ row Kind.wordRead master listed blank allowsCycles Cycle
     ∷ row Kind.wordWrite master listed listed allowsCycles Cycle
-    ∷ row Kind.input master listed zero allowsCycles Cycle
+    ∷ row Kind.input master listed blank allowsCycles Cycle
     ∷ row Kind.output master listed listed allowsCycles Cycle
-    ∷ row Kind.beginTransferTwo grantedCard zero zero (only Phase.owned) BeginTransferTwo
-    ∷ row Kind.giveBack grantedCard zero zero (only Phase.transferTwo) GiveBack
-    ∷ row Kind.reset unlisted zero zero anyPhase Reset
+    ∷ row Kind.beginTransferTwo grantedCard blank blank (only Phase.owned) BeginTransferTwo
+    ∷ row Kind.giveBack grantedCard blank blank (only Phase.transferTwo) GiveBack
+    ∷ row Kind.reset unlisted blank blank anyPhase Reset
     ∷ []
 
 -- a kind that isn't in the table lists nothing, and no phase allows it
 abbrev pub noRow : Row
-noRow = row 0 unlisted zero zero noPhase (Refused Refusal.malformed)
+noRow = row 0 unlisted blank blank noPhase (Refused Refusal.malformed)
 
 unfoldable pub rowIn : List Row → ℕ → Row
 rowIn [] kind = noRow

@@ -52,20 +52,17 @@ turn-spec =
     (λ c. speaker-decides _ _ 0x0F _ (c .match .keys8) refl refl refl refl refl refl)
     (λ c.
     let d = c .before .before .before .before .before .args in
-    let other = c .before .before .before .before .match .rest .0 .0 .0 in
-    let low = past-five (d .event .kind) (c .before .before .before .if1 .left) (other .0 .0 .0 .0 .1) (other .0 .0 .0 .1) (other .0 .0 .1) (other .0 .1) (other .1) in
+    let low = past-five (d .event .kind) (c .before .before .before .if1 .left) (c .before .before .before .before .match .rest .0 .0 .0) in
     c .cycle .ensures
     ∙ cycle-decides (d .bus) (d .event) _ low (le-of-suc-le-suc (c .before .before .if2 .taken)) (rw (c .before .match9 .keys1)) (owned-master (d .bus) (c .before .match9 .keys1)))
     (λ c.
     let d = c .before .before .before .before .before .before .args in
-    let other = c .before .before .before .before .before .match .rest .0 .0 .0 in
-    let low = past-five (d .event .kind) (c .before .before .before .before .if1 .left) (other .0 .0 .0 .0 .1) (other .0 .0 .0 .1) (other .0 .0 .1) (other .0 .1) (other .1) in
+    let low = past-five (d .event .kind) (c .before .before .before .before .if1 .left) (c .before .before .before .before .before .match .rest .0 .0 .0) in
     let early = le-of-suc-le-suc (c .before .if3 .taken) in
     c .cycle2 .ensures ∙ cycle-decides (d .bus) (d .event) _ low (le-of-suc-le-suc (c .before .before .before .if2 .taken)) (early-cycles _ early) (early-master (d .bus) early))
     (λ c.
     let d = c .before .before .before .before .before .args in
-    let other = c .before .before .before .before .match .rest .0 .0 .0 in
-    let low = past-five (d .event .kind) (c .before .before .before .if1 .left) (other .0 .0 .0 .0 .1) (other .0 .0 .0 .1) (other .0 .0 .1) (other .0 .1) (other .1) in
+    let low = past-five (d .event .kind) (c .before .before .before .if1 .left) (c .before .before .before .before .match .rest .0 .0 .0) in
     wrong-phase _ _ (rw (cycle-row (d .event .kind) low (le-of-suc-le-suc (c .before .before .if2 .taken)) .allows) (no-cycles _ (c .if3 .left) (c .before .match9 .rest .1))))
     (λ c. wrong-phase _ _ (rw (no-row-zero _ (c .if1 .taken))))
     (λ c.
