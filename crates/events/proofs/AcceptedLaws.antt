@@ -1,32 +1,25 @@
 -- What an accepted event leaves and answers, and what it has passed, for a kind that is known.
-use Prim.Native.Nat.{ℕ, _<_, _≤_}
-use mathlib.Core.Path.{_≡_, refl, sym, subst, ap, _∙_}
-use mathlib.Core.Bool.{Bool, true, false, not, cond, _&&_, _||_}
+use Prim.Native.Nat.{ℕ}
+use mathlib.Core.Path.{_≡_, subst, ap, _∙_}
+use mathlib.Core.Bool.{Bool, true, false, not}
 use mathlib.Core.List.{List}
-use lib.Dec.{eqb}
-use lib.ListN.{length}
-use borrow.Author.Tests.{not-true, not-false}
-use Rattle.words.proofs.TestLaws.{true-or-false}
+use borrow.Author.Tests.{not-false}
 use Rattle.phases.specs.Status.{statusOf}
-use Rattle.phases.specs.Driver.{driversIn}
 use Rattle.memory.specs.declared.Moved.{Moved}
-use Rattle.memory.specs.Cycles.{nothing}
 use Rattle.bus.specs.Sense.{makesSense}
 use Rattle.bus.specs.Promises.{Sensible}
 use Rattle.bus.specs.declared.state.Bus.{Bus}
 use Rattle.bus.proofs.SenseLaws.{sense-means}
-use Rattle.judgement.specs.Table.{hasTurn, rowOf, rowIn}
+use Rattle.judgement.specs.Table.{hasTurn, rowOf}
 use Rattle.judgement.specs.Refusals.{hasWrongBuffers}
 use Rattle.judgement.specs.Judge.{soundRefusal}
 use Rattle.judgement.specs.declared.event.Event.{Event}
-use Rattle.judgement.specs.declared.turns.Verdict.{Verdict}
 use Rattle.judgement.proofs.Passed.{Passed, passed, accepted-call}
 use Rattle.events.specs.Machine.{Machine, machine}
 use Rattle.events.specs.Cycles.{isSixteen, movedBy, memoryLeft, portsLeft}
 use Rattle.events.specs.Answers.{answerWith, signalsWith}
 use Rattle.events.specs.Step.{stepBy, takenBy, answerBy, refusalIn, after, answerTo}
-use Rattle.events.specs.Promises.{Does, Steps}
-use Rattle.events.proofs.CycleLaws.{OnlyMoved}
+use Rattle.events.specs.Promises.{Does}
 
 -- machines are the same where their parts are
 parts : {b c : Bus} {x y p q : List ℕ} → b ≡ c → x ≡ y → p ≡ q → machine b x p ≡ machine c y q

@@ -1,8 +1,7 @@
 -- What an accepted cycle does, kind by kind.
 use Prim.Native.Nat.{ℕ, _+_, _%_, _<_, _≤_}
 use mathlib.Core.Path.{_≡_, refl, sym, subst, ap, _∙_}
-use mathlib.Core.Logic.{_⊎_, inl, inr, ⊎-elim}
-use mathlib.Core.Bool.{Bool, true, false, not, cond, _&&_, _||_, and-eq-true-iff}
+use mathlib.Core.Bool.{Bool, true, false, not, _&&_, _||_, and-eq-true-iff}
 use mathlib.Core.List.{List}
 use native.Mathlib.Nat.{mod-eq-of-lt}
 use native.Mathlib.Omega.{arith}
@@ -12,19 +11,17 @@ use borrow.Author.Tests.{eqb-true, ltb-false, lt-ltb, not-false}
 use Rattle.words.specs.Among.{isAmong, beside}
 use Rattle.words.proofs.TestLaws.{neither-of}
 use Rattle.phases.specs.Kind as Kind
-use Rattle.phases.specs.Signal.{signalsIn}
 use Rattle.phases.specs.Status.{statusOf}
-use Rattle.memory.specs.declared.Moved.{Moved}
 use Rattle.memory.specs.Halves.{evenHalf, oddHalf, wordOf}
 use Rattle.memory.specs.Cycles.{inOneCycle, hasWord, afterWordWrite}
 use Rattle.memory.proofs.Moves.{byte-moves, word-moves, same-bytes}
 use Rattle.judgement.specs.Table.{permanentMaster, rowIn}
 use Rattle.judgement.specs.Refusals.{hasStrayField, isTooWide, pageAt}
 use Rattle.judgement.specs.declared.event.Event.{Event}
-use Rattle.events.specs.Machine.{Machine, machine}
-use Rattle.events.specs.Cycles.{isSixteen, byteOf}
-use Rattle.events.specs.Answers.{signalsWith, wordSignals}
-use Rattle.events.specs.Promises.{Does, Accepted, Moves, onPage, asked, ByteReadDoes, OpcodeFetchDoes, ByteWriteDoes, InputDoes, OutputDoes, WordReadDoes, WordWriteDoes}
+use Rattle.events.specs.Machine.{Machine}
+use Rattle.events.specs.Cycles.{byteOf}
+use Rattle.events.specs.Answers.{wordSignals}
+use Rattle.events.specs.Promises.{Accepted, Moves, onPage, asked, ByteReadDoes, OpcodeFetchDoes, ByteWriteDoes, InputDoes, OutputDoes, WordReadDoes, WordWriteDoes}
 use Rattle.events.proofs.AcceptedLaws.{right-buffers, has-passed, does}
 
 module _ (k : ℕ) (m : Machine) (event : Event) (ok : Accepted k m event) where

@@ -1,8 +1,7 @@
 -- What an accepted event does that is no cycle, kind by kind.
-use Prim.Native.Nat.{ℕ, _<_, _≤_}
+use Prim.Native.Nat.{ℕ}
 use mathlib.Core.Path.{_≡_, refl, sym, subst, ap, _∙_}
-use mathlib.Core.Bool.{Bool, true, false, not, cond, _&&_, _||_, and-eq-true-iff}
-use mathlib.Core.List.{List}
+use mathlib.Core.Bool.{Bool, true, false, not, _&&_, _||_, and-eq-true-iff}
 use native.Mathlib.Omega.{arith}
 use lib.Dec.{eqb, leb}
 use lib.ListN.{set}
@@ -17,15 +16,15 @@ use Rattle.phases.specs.Status.{statusOf}
 use Rattle.memory.specs.Cycles.{nothing}
 use Rattle.cards.specs.Cards.{cardIn, someCard, isWithin}
 use Rattle.cards.proofs.CardLaws.{some-of}
-use Rattle.bus.specs.State.{nobody, silent, changed, arbitrationOf, linesOf, isSettled}
+use Rattle.bus.specs.State.{nobody, silent, changed, linesOf, isSettled}
 use Rattle.bus.specs.Steps.{mayRequest, requested, mayLook, lookedBy, mayAcknowledge, acknowledged, mayTransfer, transferred, givenBack}
 use Rattle.bus.specs.declared.state.Bus.{Bus}
 use Rattle.judgement.specs.Table.{hasTurn, rowOf, rowIn, listsSpeaker}
 use Rattle.judgement.specs.declared.event.Event.{Event}
 use Rattle.events.specs.Machine.{Machine, machine}
 use Rattle.events.specs.Cycles.{isSixteen}
-use Rattle.events.specs.Answers.{answerWith, signalsWith, wordSignals}
-use Rattle.events.specs.Step.{stepBy, refusalIn, after}
+use Rattle.events.specs.Answers.{signalsWith, wordSignals}
+use Rattle.events.specs.Step.{stepBy}
 use Rattle.events.specs.Promises.{
   Does,
   Steps,

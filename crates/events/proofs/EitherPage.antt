@@ -20,26 +20,17 @@ use Rattle.memory.proofs.Moves.{same-bytes, same-datum}
 use Rattle.bus.specs.State.{withPages}
 use Rattle.bus.specs.Sense.{pagesKnown, contentionFits, drivingFits, grantFits, makesSense}
 use Rattle.bus.specs.declared.state.Bus.{Bus}
-use Rattle.judgement.specs.Refusals.{
-  hasWrongBuffers,
-  isMalformed,
-  namesNobody,
-  namesUnfitted,
-  isWrongPhase,
-  isUnsettled,
-  isOddWord,
-  isAbsent,
-}
+use Rattle.judgement.specs.Refusals.{hasWrongBuffers, isMalformed, namesNobody, namesUnfitted, isWrongPhase, isUnsettled, isOddWord}
 use Rattle.judgement.specs.Judge.{refusalOf}
 use Rattle.judgement.specs.Table.{Speaker, unlisted, contender, grantedCard, master, hasTurn, rowOf}
 use Rattle.judgement.specs.declared.event.Event.{Event}
 use Rattle.judgement.specs.declared.turns.Verdict.{Verdict}
 use Rattle.events.specs.Machine.{Machine}
-use Rattle.events.specs.Cycles.{byteOf, isSixteen, movedBy, memoryLeft}
+use Rattle.events.specs.Cycles.{byteOf, movedBy, memoryLeft}
 use Rattle.events.specs.Answers.{bare, answerWith}
 use Rattle.events.specs.Step.{takenBy, answerBy, refusalIn, after, answerTo, afterAs, answerAs}
 use Rattle.events.specs.declared.answers.Answer.{Answer}
-use Rattle.events.specs.Promises.{withPageAt, SameWord, SameOverEitherPage}
+use Rattle.events.specs.Promises.{withPageAt, SameOverEitherPage}
 
 -- ---- The page codes
 

@@ -1,10 +1,9 @@
 -- Refused events: what they leave, what is answered, and by which number.
-use Prim.Native.Nat.{ℕ, _<_, _≤_}
-use mathlib.Core.Path.{_≡_, refl, sym, subst, ap, _∙_}
+use Prim.Native.Nat.{ℕ, _≤_}
+use mathlib.Core.Path.{_≡_, refl, sym, ap, _∙_}
 use mathlib.Core.Logic.{_⊎_, inl, inr}
-use mathlib.Core.Bool.{Bool, true, false, not, cond, true≢false}
+use mathlib.Core.Bool.{true, false, not, true≢false}
 use native.Mathlib.Omega.{arith}
-use lib.Dec.{eqb, lit≤}
 use borrow.Author.Tests.{ne-eqb, lt-leb}
 use Rattle.words.specs.First.{appliesAs, ascendsFrom}
 use Rattle.words.proofs.FirstLaws.{first-by-number, none-applies}
@@ -17,7 +16,7 @@ use Rattle.judgement.specs.Table.{rowIn}
 use Rattle.judgement.specs.Refusals.{isWrongPhase}
 use Rattle.judgement.specs.Judge.{reasonsAgainst, refusalOf}
 use Rattle.judgement.specs.declared.event.Event.{Event}
-use Rattle.judgement.proofs.Passed.{Passed, passed, accepted-call, sound-call}
+use Rattle.judgement.proofs.Passed.{passed, accepted-call, sound-call}
 use Rattle.events.specs.Machine.{Machine}
 use Rattle.events.specs.Answers.{answerWith, bare, refusedWith}
 use Rattle.events.specs.Step.{refusalIn, after, answerTo, soundAfter, soundAnswer}

@@ -1,6 +1,6 @@
 -- What an event leaves as it was.
 use Prim.Native.Nat.{ℕ, _+_, _<_, _≤_}
-use mathlib.Core.Path.{_≡_, refl, sym, subst, ap, _∙_}
+use mathlib.Core.Path.{_≡_, refl, subst, ap}
 use mathlib.Core.Logic.{_⊎_, inl, inr, ⊎-elim}
 use mathlib.Core.Bool.{Bool, true, false, cond}
 use mathlib.Core.List.{List}
@@ -10,10 +10,8 @@ use lib.Dec.{eqb}
 use lib.ListN.{length, getD}
 use borrow.Author.Tests.{eqb-true, ne-eqb}
 use Rattle.words.specs.Among.{beside}
-use Rattle.words.proofs.TestLaws.{true-or-false}
 use Rattle.phases.specs.Kind as Kind
 use Rattle.memory.specs.Cycles.{afterByteWrite, afterWordWrite}
-use Rattle.memory.specs.Promises.{SameOutside}
 use Rattle.memory.proofs.Keeps.{byte-write-keeps, word-write-keeps}
 use Rattle.bus.specs.Sense.{makesSense}
 use Rattle.bus.specs.Method.{Method, request, look, acknowledge, beginTransferOne, takeBus, beginTransferTwo, giveBack, reset, after as afterMethod}
@@ -36,7 +34,7 @@ use Rattle.judgement.specs.declared.turns.Verdict.the-variants.{
 }
 use Rattle.judgement.proofs.TableLaws.{cycle-row}
 use Rattle.events.specs.Machine.{Machine}
-use Rattle.events.specs.Cycles.{isSixteen, byteOf, memoryLeft, portsLeft}
+use Rattle.events.specs.Cycles.{byteOf, memoryLeft, portsLeft}
 use Rattle.events.specs.Step.{stepBy, takenBy, refusalIn, after}
 use Rattle.events.specs.Promises.{SenseKeptByEvents, LengthsKept, CardsAndPagesStay, CyclesKeepTheBus, OthersKeepBytes, OtherBytesStay}
 

@@ -1,7 +1,7 @@
 -- What a call hands back, by how it was judged.
 use Prim.Native.Nat.{ℕ}
 use mathlib.Core.Path.{_≡_, refl, sym, ap, _∙_}
-use mathlib.Core.Bool.{Bool, true, false, not, cond, _&&_}
+use mathlib.Core.Bool.{true, false, not, _&&_}
 use mathlib.Core.List.{List}
 use lib.Dec.{eqb}
 use lib.ListN.{length}
@@ -9,19 +9,19 @@ use borrow.Author.Tests.{ne-eqb}
 use Rattle.words.specs.First.{firstOf}
 use Rattle.bus.specs.Refusal as Refusal
 use Rattle.bus.specs.Sense.{makesSense}
-use Rattle.bus.specs.declared.state.Bus.{Bus}
 use Rattle.judgement.specs.Table.{rowOf}
 use Rattle.judgement.specs.Judge.{soundRefusal, refusalOf, numberOf, soundVerdict}
 use Rattle.judgement.specs.declared.event.Event.{Event}
 use Rattle.judgement.specs.declared.turns.Verdict.{Verdict}
 use Rattle.judgement.proofs.Passed.{verdict-number, verdict-step, sound-call}
-use Rattle.events.specs.Machine.{Machine, machine}
+use Rattle.events.specs.Machine.{Machine}
 use Rattle.events.specs.Answers.{refusedWith}
-use Rattle.events.specs.Step.{stepBy, takenBy, answerBy, stepped, refusalIn, after, answerTo, soundAfter, soundAnswer}
+use Rattle.events.specs.Step.{stepBy, takenBy, answerBy, stepped, after, answerTo, soundAfter, soundAnswer}
+use Rattle.events.specs.declared.answers.Answer.{Answer}
 use Rattle.events.specs.declared.steps.Stepped.{Stepped}
 
 -- what a call hands back and leaves, given what it should have
-abbrev pub Hands : Machine → Event → (Machine → Event → Machine) → (Machine → Event → Rattle.events.specs.declared.answers.Answer.Answer) → Stepped → List ℕ → List ℕ → Type 0
+abbrev pub Hands : Machine → Event → (Machine → Event → Machine) → (Machine → Event → Answer) → Stepped → List ℕ → List ℕ → Type 0
 Hands m event left answer result memory ports =
     (result ≡ stepped (left m event .bus) (answer m event)) × ((memory ≡ left m event .memory) × (ports ≡ left m event .ports))
 

@@ -1,7 +1,7 @@
 -- The answer to an event (01, "The program and one whole run").
 use Prim.Native.Nat.{ℕ, _+_}
-use mathlib.Core.Bool.{Bool, cond, _||_}
-use lib.Dec.{eqb, leb}
+use mathlib.Core.Bool.{Bool, cond}
+use lib.Dec.{leb}
 use Rattle.phases.specs.Kind as Kind
 use Rattle.phases.specs.Signal.{SIXTN, sXTRQ, signalsIn}
 use Rattle.memory.specs.declared.Moved.{Moved}

@@ -19,14 +19,13 @@ use Rattle.bus.specs.Refusal as Refusal
 use Rattle.bus.specs.Sense.{makesSense}
 use Rattle.bus.specs.State.{nobody, silent, changed, withPages, linesOf}
 use Rattle.bus.specs.declared.state.Bus.{Bus}
-use Rattle.judgement.specs.Refusals.{hasWrongBuffers, pageAt}
+use Rattle.judgement.specs.Refusals.{hasWrongBuffers}
 use Rattle.judgement.specs.Judge.{reasonsAgainst}
 use Rattle.judgement.specs.declared.event.Event.{Event}
 use Rattle.events.specs.Machine.{Machine, machine}
 use Rattle.events.specs.Cycles.{isSixteen}
 use Rattle.events.specs.Answers.{answerWith, bare}
 use Rattle.events.specs.Step.{refusalIn, after, answerTo, soundAfter, soundAnswer}
-use Rattle.events.specs.declared.answers.Answer.{Answer}
 
 -- ---- Refused
 

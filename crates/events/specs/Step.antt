@@ -1,7 +1,6 @@
 -- The step: an accepted event does what its kind does, and a refused one nothing (01, "Events", "Refusals and their order").
 use Prim.Native.Nat.{ℕ}
-use mathlib.Core.Bool.{Bool, cond}
-use mathlib.Core.List.{List}
+use mathlib.Core.Bool.{cond}
 use lib.Dec.{eqb}
 use Rattle.phases.specs.Status.{statusOf}
 use Rattle.bus.specs.Refusal as Refusal

@@ -1,6 +1,5 @@
 -- The small states' events and the columns, by computation.
-use Prim.Native.Nat.{ℕ, _≤_}
-use mathlib.Core.Path.{_≡_, refl}
+use mathlib.Core.Path.{refl}
 use Rattle.words.specs.Below.{allBelow, orBelow}
 use Rattle.words.specs.First.{firstOf}
 use Rattle.lines.specs.Look.{look}

@@ -1,15 +1,14 @@
 -- What an accepted event has passed, and that one which passes everything is accepted.
 use Prim.Native.Nat.{ℕ}
 use mathlib.Core.Path.{_≡_, refl, sym, _∙_}
-use mathlib.Core.Bool.{Bool, true, false, not, cond, true≢false}
-use mathlib.Core.List.{List, [], _∷_}
+use mathlib.Core.Bool.{Bool, true, false}
+use mathlib.Core.List.{List}
 use lib.Dec.{eqb}
-use borrow.Author.Tests.{eqb-true, eq-eqb, not-false}
-use Rattle.words.specs.First.{Reason, reason, firstOf}
+use borrow.Author.Tests.{eqb-true, not-false}
+use Rattle.words.specs.First.{reason, firstOf}
 use Rattle.words.proofs.FirstLaws.{first-none}
 use Rattle.bus.specs.Settle.{isSenseless}
 use Rattle.bus.specs.declared.state.Bus.{Bus}
-use Rattle.judgement.specs.Table.{rowOf}
 use Rattle.judgement.specs.Refusals.{
   hasWrongBuffers,
   isMalformed,
@@ -21,7 +20,7 @@ use Rattle.judgement.specs.Refusals.{
   isOddWord,
   isAbsent,
 }
-use Rattle.judgement.specs.Judge.{turnReasons, soundReasons, reasonsAgainst, soundRefusal, refusalOf, numberOf, verdictOn, soundVerdict}
+use Rattle.judgement.specs.Judge.{soundRefusal, refusalOf, numberOf, verdictOn, soundVerdict}
 use Rattle.judgement.specs.Promises.{VerdictNumber, VerdictStep}
 use Rattle.judgement.specs.declared.event.Event.{Event}
 use Rattle.judgement.proofs.TurnLaws.{steps-of-table}

@@ -2,11 +2,11 @@
 use Prim.Native.Nat.{ℕ, _<_, _≤_}
 use mathlib.Core.Path.{_≡_, refl, sym, ap, _∙_}
 use mathlib.Core.Logic.{⊎-elim}
-use mathlib.Core.Bool.{Bool, true, false, not, cond, _&&_, _||_, and-eq-true-iff, true≢false}
+use mathlib.Core.Bool.{Bool, true, false, not, cond, _&&_, and-eq-true-iff, true≢false}
 use mathlib.Core.List.{List, [], _∷_}
 use native.Mathlib.Nat.{eq-or-lt-of-le}
 use native.Mathlib.Omega.{arith}
-use lib.Dec.{eqb, leb}
+use lib.Dec.{eqb}
 use borrow.Author.Tests.{eqb-true, ne-eqb}
 use Rattle.words.specs.First.{firstOf}
 use Rattle.phases.specs.Phase as Phase
@@ -17,7 +17,7 @@ use Rattle.bus.specs.State.{isSettled}
 use Rattle.bus.specs.declared.state.Bus.{Bus}
 use Rattle.judgement.specs.Table.{permanentMaster, hasTurn, masterOf, Row, table, rowOf, rowIn}
 use Rattle.judgement.specs.Refusals.{isMalformed, namesNobody, namesUnfitted, isWrongPhase, isNotItsTurn, isUnsettled, isOddWord, isAbsent}
-use Rattle.judgement.specs.Judge.{turnReasons, soundReasons, soundRefusal, numberOf, verdictOn, turnOf, soundVerdict, cycleTurn}
+use Rattle.judgement.specs.Judge.{soundRefusal, numberOf, turnOf, soundVerdict, cycleTurn}
 use Rattle.judgement.specs.declared.event.Event.{Event}
 use Rattle.judgement.specs.declared.turns.Verdict.{Verdict}
 use Rattle.judgement.specs.declared.turns.Verdict.the-variants.{Refused, Acknowledge, Cycle}

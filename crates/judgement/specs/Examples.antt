@@ -1,7 +1,7 @@
 -- The event table read the other way round, and events on small states, each with the refusal that 01 gives it or 0.
 use Prim.Native.Nat.{ℕ, zero, suc}
 use mathlib.Core.Path.{_≡_}
-use mathlib.Core.Bool.{Bool, true, false, cond}
+use mathlib.Core.Bool.{Bool, cond}
 use mathlib.Core.List.{List, [], _∷_}
 use lib.ListN.{replicate, set}
 use Rattle.phases.specs.Phase as Phase
@@ -9,7 +9,6 @@ use Rattle.bus.specs.State.{freeBus, nobody, silent, stateOf}
 use Rattle.bus.specs.declared.state.Bus.{Bus}
 use Rattle.judgement.specs.Table.{rowOf, listsSpeaker, listsAddress, listsDatum}
 use Rattle.judgement.specs.Judge.{soundRefusal}
-use Rattle.judgement.specs.declared.event.Event.{Event}
 
 -- ---- Columns
 

@@ -1,6 +1,6 @@
 -- The judgement of an event: the first refusal that applies, by number, or the step of its kind (01, "Refusals and their order").
 use Prim.Native.Nat.{ℕ}
-use mathlib.Core.Bool.{Bool, cond}
+use mathlib.Core.Bool.{cond}
 use mathlib.Core.List.{List, [], _∷_}
 use lib.Dec.{eqb}
 use Rattle.words.specs.First.{Reason, reason, firstOf}

@@ -1,10 +1,9 @@
 -- The refusals of an event, one by one (01, "Refusals and their order"): each says when its number applies, whatever else may apply too.
 use Prim.Native.Nat.{ℕ, _/_, _%_}
 use mathlib.Core.Bool.{Bool, not, _&&_, _||_}
-use mathlib.Core.List.{List, [], _∷_}
+use mathlib.Core.List.{List}
 use lib.Dec.{eqb, leb, ltb}
 use lib.ListN.{length, getD}
-use Rattle.words.specs.Among.{isAmong}
 use Rattle.phases.specs.Kind as Kind
 use Rattle.cards.specs.Cards.{cardIn, someCard, isWithin}
 use Rattle.bus.specs.State.{isSettled}

@@ -1,14 +1,14 @@
 -- What a run leaves of an arbitration that goes on: the bus after its accepted looks, and nothing else.
-use Prim.Native.Nat.{ℕ, _<_, _≤_}
+use Prim.Native.Nat.{ℕ}
 use mathlib.Core.Path.{_≡_, refl, sym, subst, ap, _∙_}
-use mathlib.Core.Bool.{Bool, true, false, not, cond, true≢false}
-use mathlib.Core.List.{List, [], _∷_, _++_}
+use mathlib.Core.Bool.{Bool, true, false, cond, true≢false}
+use mathlib.Core.List.{List, [], _∷_}
 use lib.Dec.{eqb}
 use borrow.Author.Tests.{eqb-true, eqb-false, ne-eqb}
 use native.Mathlib.Omega.{arith}
 use Rattle.phases.specs.Phase as Phase
 use Rattle.phases.specs.Kind as Kind
-use Rattle.bus.specs.Steps.{lookedBy, afterLooksOf}
+use Rattle.bus.specs.Steps.{afterLooksOf}
 use Rattle.bus.specs.declared.state.Bus.{Bus}
 use Rattle.bus.proofs.Granting.{looks-drive}
 use Rattle.bus.proofs.LookRuns.{looks-append as bus-looks-append}
@@ -17,7 +17,7 @@ use Rattle.judgement.specs.declared.event.Event.{Event}
 use Rattle.judgement.specs.declared.turns.Verdict.{Verdict}
 use Rattle.judgement.proofs.TableLaws.{each-kind, cycle-row, no-row}
 use Rattle.events.specs.Machine.{Machine}
-use Rattle.events.specs.Step.{stepBy, takenBy, refusalIn, after}
+use Rattle.events.specs.Step.{stepBy, refusalIn, after}
 use Rattle.events.proofs.AcceptedLaws.{phase-allows, leaves-taken}
 use Rattle.events.proofs.Refused.{refused-keeps}
 use Rattle.runs.specs.Run.{afterAll, isAccepted, acceptedOf, speakersOf, looksIn, GoesOn}

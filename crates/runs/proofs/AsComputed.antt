@@ -1,17 +1,16 @@
 -- The single runs, computed on the bus, for every memory of the right length.
 use Prim.Native.Nat.{ℕ, _≤_}
-use mathlib.Core.Path.{_≡_, refl, sym, ap, _∙_}
-use mathlib.Core.Bool.{Bool, true, false, not, _||_}
-use mathlib.Core.List.{List, [], _∷_, _++_}
-use lib.Dec.{eqb, ltb}
+use mathlib.Core.Path.{_≡_, refl, ap, _∙_}
+use mathlib.Core.Bool.{true, false}
+use mathlib.Core.List.{List, [], _++_}
+use lib.Dec.{eqb}
 use lib.ListN.{getD}
-use borrow.Author.Tests.{le-ltb, not-false}
+use borrow.Author.Tests.{le-ltb}
 use Rattle.words.specs.Below.{allBelow, orBelow}
 use Rattle.words.specs.Among.{isAmong, everyListed}
 use Rattle.words.specs.First.{firstOf, leastBelow}
 use Rattle.lines.specs.Look.{look}
 use Rattle.lines.specs.Arbitration.{everyContender, shown, looked, settled, isRound}
-use Rattle.phases.specs.Phase as Phase
 use Rattle.phases.specs.Kind as Kind
 use Rattle.cards.specs.Cards.{cardIn, someCard, isWithin}
 use Rattle.bus.specs.Refusal as Refusal
@@ -33,22 +32,7 @@ use Rattle.events.specs.declared.answers.Answer.{Answer}
 use Rattle.events.proofs.EachCycle.{word-read-does}
 use Rattle.runs.specs.Run.{afterAll, speakersOf, IsRound}
 use Rattle.runs.specs.Promises.{acknowledge}
-use Rattle.runs.specs.Examples.{
-  cycle,
-  looks,
-  Right,
-  contending,
-  roundOne,
-  roundTwo,
-  roundThree,
-  threeRounds,
-  ThreeRoundsFallShort,
-  ThreeRounds,
-  LinesAfter,
-  AtRest,
-  Present,
-  Marked,
-}
+use Rattle.runs.specs.Examples.{cycle, looks, Right, contending, roundOne, roundTwo, roundThree, threeRounds, ThreeRounds, LinesAfter, AtRest, Present, Marked}
 use Rattle.runs.proofs.BusRuns.{Sound, busAfter, busAfterAll, acceptedOn, sound-refusal, sound-after, sound-run, run-of-the-bus, accepted-on-the-bus}
 
 contending-sound : (memory ports : List ℕ) → Right memory ports → Sound (contending memory ports)

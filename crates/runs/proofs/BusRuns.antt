@@ -1,6 +1,5 @@
 -- A run with right buffers is a run of the bus alone: so runs on a known bus are computed whatever the memory holds.
-use Prim.Native.Nat.{ℕ}
-use mathlib.Core.Path.{_≡_, refl, sym, ap, _∙_}
+use mathlib.Core.Path.{_≡_, refl, ap, _∙_}
 use mathlib.Core.Bool.{Bool, true, false, not, cond}
 use mathlib.Core.List.{List, [], _∷_}
 use lib.Dec.{eqb}
@@ -8,13 +7,13 @@ use Rattle.bus.specs.Sense.{makesSense}
 use Rattle.bus.specs.declared.state.Bus.{Bus}
 use Rattle.judgement.specs.Table.{rowOf}
 use Rattle.judgement.specs.Refusals.{hasWrongBuffers}
-use Rattle.judgement.specs.Judge.{soundRefusal, refusalOf}
+use Rattle.judgement.specs.Judge.{soundRefusal}
 use Rattle.judgement.specs.declared.event.Event.{Event}
 use Rattle.judgement.proofs.Passed.{sound-call}
 use Rattle.events.specs.Machine.{Machine}
 use Rattle.events.specs.Step.{stepBy, takenBy, refusalIn, after}
 use Rattle.events.proofs.Stays.{sense-kept-by-events}
-use Rattle.runs.specs.Run.{afterAll, isAccepted, acceptedOf}
+use Rattle.runs.specs.Run.{afterAll, acceptedOf}
 use Rattle.runs.proofs.RunLaws.{buffers-in-runs}
 
 abbrev pub busAfter : Bus → Event → Bus

@@ -1,42 +1,38 @@
 -- Demand 3: four rounds among other events, lines that stay, and the acknowledge.
-use Prim.Native.Nat.{ℕ, _<_, _≤_}
+use Prim.Native.Nat.{ℕ, _<_}
 use mathlib.Core.Path.{_≡_, refl, sym, subst, ap, _∙_}
 use mathlib.Core.Logic.{_⊎_, _↔_, inl, inr}
-use mathlib.Core.Bool.{Bool, true, false, not, cond, _&&_, _||_, true≢false}
+use mathlib.Core.Bool.{Bool, true, false, not, cond, _||_}
 use mathlib.Core.List.{List, [], _∷_, _++_, append-nil, append-assoc, flatten}
-use native.Mathlib.Nat.{lt-suc-self, le-of-suc-le-suc}
+use native.Mathlib.Nat.{le-of-suc-le-suc}
 use native.Mathlib.Omega.{arith}
-use lib.Dec.{eqb, leb, ltb}
-use lib.ListN.{length, getD, set}
+use lib.Dec.{eqb, ltb}
+use lib.ListN.{getD}
 use lib.Seq.{getD-set-same}
-use borrow.Author.Tests.{eqb-false, eq-eqb, le-ltb, le-leb, not-false}
+use borrow.Author.Tests.{eqb-false, le-ltb, le-leb, not-false}
 use Rattle.words.specs.First.{firstOf}
 use Rattle.words.proofs.TestLaws.{true-or-false, neither-of}
 use Rattle.words.proofs.BelowLaws.{some-not}
-use Rattle.lines.specs.Arbitration.{fourLines, Contender, Highest, everyContender, looked, settled, isRound}
+use Rattle.lines.specs.Arbitration.{fourLines, Contender, everyContender, looked, settled, isRound}
 use Rattle.lines.proofs.Settling.{settled-at, settled-stays as lines-stay}
 use Rattle.phases.specs.Phase as Phase
-use Rattle.phases.specs.Kind as Kind
 use Rattle.cards.specs.Cards.{cardIn}
 use Rattle.bus.specs.Refusal as Refusal
-use Rattle.bus.specs.Sense.{makesSense}
 use Rattle.bus.specs.State.{changed, arbitrationOf, linesOf, isSettled}
 use Rattle.bus.specs.Steps.{afterLooksOf}
 use Rattle.bus.specs.Promises.{Sensible}
-use Rattle.bus.specs.declared.state.Bus.{Bus}
 use Rattle.bus.proofs.SenseLaws.{sense-means}
 use Rattle.bus.proofs.Granting.{looks-drive, four-rounds}
 use Rattle.judgement.specs.Table.{rowIn}
 use Rattle.judgement.specs.Refusals.{hasWrongBuffers}
-use Rattle.judgement.specs.Judge.{soundRefusal, refusalOf}
+use Rattle.judgement.specs.Judge.{soundRefusal}
 use Rattle.judgement.specs.declared.event.Event.{Event}
-use Rattle.judgement.proofs.Passed.{Passed, passed, accepts, sound-call, accepted-call}
+use Rattle.judgement.proofs.Passed.{Passed, accepts, sound-call}
 use Rattle.events.specs.Machine.{Machine}
 use Rattle.events.specs.Step.{refusalIn, after}
-use Rattle.events.specs.Promises.{Steps}
 use Rattle.events.proofs.EachStep.{look-does, acknowledge-does}
 use Rattle.runs.specs.Run.{afterAll, looksIn, IsRound, GoesOn}
-use Rattle.runs.specs.Promises.{lookBy, acknowledge, Arbitrates, SettledAt, FourRoundsOfEvents, SettledStays, Restless, AcknowledgeRefused}
+use Rattle.runs.specs.Promises.{lookBy, acknowledge, Arbitrates, FourRoundsOfEvents, SettledStays, Restless, AcknowledgeRefused}
 use Rattle.runs.proofs.RunLaws.{looks-append, goes-on-parts, sense-in-runs, buffers-in-runs}
 use Rattle.runs.proofs.ArbitrationRuns.{run-looks, run-keeps}
 

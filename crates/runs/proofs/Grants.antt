@@ -7,8 +7,8 @@ use mathlib.Core.List.{List, [], _∷_, _++_, append-nil, append-assoc}
 use native.Mathlib.Nat.{le-of-eq}
 use native.Mathlib.Omega.{arith}
 use lib.Dec.{eqb, lit<}
-use lib.ListN.{length, set}
-use borrow.Author.Tests.{eqb-true, eqb-false, not-false, not-true}
+use lib.ListN.{set}
+use borrow.Author.Tests.{eqb-true, eqb-false, not-false}
 use Rattle.words.specs.First.{appliesAs}
 use Rattle.words.proofs.TestLaws.{either-of}
 use Rattle.lines.specs.Arbitration.{Highest, looked}

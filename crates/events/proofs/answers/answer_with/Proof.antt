@@ -1,5 +1,4 @@
 -- From what the call ensures.
-use mathlib.Core.Path.{refl}
 use borrow.Author.Needs.{needs}
 use Rattle.events.proofs.answers.answer_with.Statement.{statement}
 use Rattle.events.proofs.answers.answer_with.Tie as tie

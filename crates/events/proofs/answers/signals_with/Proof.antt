@@ -3,7 +3,7 @@ use Prim.Native.Nat.{_+_}
 use mathlib.Core.Path.{ap₂}
 use native.Mathlib.Omega.{arith}
 use borrow.Author.Needs.{needs}
-use Rattle.events.proofs.AnswerLaws.{signals-fit}
+use Rattle.events.proofs.SignalLaws.{signals-fit}
 use Rattle.events.proofs.answers.signals_with.Statement.{statement}
 use Rattle.events.proofs.answers.signals_with.Tie as tie
 

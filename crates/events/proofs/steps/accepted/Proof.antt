@@ -1,5 +1,4 @@
 -- From what the calls ensure.
-use mathlib.Core.Path.{sym, ap, _∙_}
 use borrow.Author.Needs.{needs}
 use Rattle.events.proofs.steps.accepted.Statement.{statement}
 use Rattle.events.proofs.steps.accepted.Tie as tie

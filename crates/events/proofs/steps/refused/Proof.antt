@@ -1,7 +1,9 @@
 -- By whether the number comes with the bus.
-use mathlib.Core.Path.{sym, ap, _∙_}
+use mathlib.Core.Path.{ap, _∙_}
 use borrow.Author.Needs.{needs}
 use borrow.Author.Tests.{le-leb, lt-leb}
+use Rattle.words.proofs.TestLaws.{then-pick, else-pick}
+use Rattle.events.specs.Step.{stepped}
 use Rattle.events.proofs.steps.refused.Statement.{statement}
 use Rattle.events.proofs.steps.refused.Tie as tie
 
@@ -12,5 +14,6 @@ refused-spec =
     (λ c κs. search needs)
     (λ c κs. search needs)
     (λ c κs. search needs)
-    (λ c. rw (c .bare .ensures, le-leb _ _ (c .before .if1 .taken)))
-    (λ c. rw (c .answer-with .ensures, c .before .signals .ensures, lt-leb _ _ (c .before .before .if1 .left))))
+    (λ c. ap (stepped (c .before .before .args .bus)) (then-pick _ (le-leb _ _ (c .before .if1 .taken)) (c .bare .ensures)))
+    (λ c.
+    ap (stepped (c .before .before .before .args .bus)) (else-pick _ (lt-leb _ _ (c .before .before .if1 .left)) (rw (c .answer-with .ensures, c .before .signals .ensures)))))

@@ -1,5 +1,4 @@
 -- The column, computed over all kinds.
-use lib.Dec.{lit<}
 use borrow.Author.Needs.{needs}
 use Rattle.judgement.proofs.TableLaws.{address-column}
 use Rattle.judgement.proofs.columns.lists_address.Statement.{statement}

@@ -1,8 +1,8 @@
 -- The signals of an answer fit a byte.
 use Prim.Native.Nat.{ℕ, _+_, _<_, _≤_}
-use mathlib.Core.Bool.{Bool, true, false, cond, _||_}
+use mathlib.Core.Bool.{Bool, true, false, cond}
 use native.Mathlib.Omega.{arith}
-use lib.Dec.{eqb, lit≤}
+use lib.Dec.{lit≤}
 use Rattle.phases.specs.Kind as Kind
 use Rattle.phases.specs.Signal.{HOLD, pHLDA, ADSB, SDSB, DODSB, CDSB, isHeld, isAcknowledged, isHandedOver, isOwned, signalsIn}
 use Rattle.events.specs.Answers.{wordSignals}
