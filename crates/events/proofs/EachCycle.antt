@@ -22,7 +22,7 @@ use Rattle.events.specs.Machine.{Machine}
 use Rattle.events.specs.Cycles.{byteOf}
 use Rattle.events.specs.Answers.{wordSignals}
 use Rattle.events.specs.Promises.{Accepted, Moves, onPage, asked, ByteReadDoes, OpcodeFetchDoes, ByteWriteDoes, InputDoes, OutputDoes, WordReadDoes, WordWriteDoes}
-use Rattle.events.proofs.AcceptedLaws.{right-buffers, has-passed, does}
+use Rattle.events.proofs.TakenLaws.{right-buffers, has-passed, does}
 
 module _ (k : ℕ) (m : Machine) (event : Event) (ok : Accepted k m event) where
   abbrev a : ℕ

@@ -39,7 +39,7 @@ use Rattle.events.specs.Promises.{
   ResetDoes,
 }
 use Rattle.events.proofs.CycleLaws.{no-cycle}
-use Rattle.events.proofs.AcceptedLaws.{in-sense, has-passed, phase-allows, speaker-has-turn, does}
+use Rattle.events.proofs.TakenLaws.{in-sense, has-passed, phase-allows, speaker-has-turn, does}
 
 -- a kind that is no cycle's: the tests of the seven
 NoCycle : ℕ → Type 0

@@ -1,5 +1,4 @@
 -- Laws that the functions' proofs cite, and the promises' proofs.
-pub mod AcceptedLaws
 pub mod AsComputed
 pub mod CycleLaws
 pub mod EachCycle
@@ -9,3 +8,4 @@ pub mod Refused
 pub mod SignalLaws
 pub mod Stays
 pub mod StepLaws
+pub mod TakenLaws

@@ -18,7 +18,7 @@ use Rattle.judgement.specs.declared.turns.Verdict.{Verdict}
 use Rattle.judgement.proofs.TableLaws.{each-kind, cycle-row, no-row}
 use Rattle.events.specs.Machine.{Machine}
 use Rattle.events.specs.Step.{stepBy, refusalIn, after}
-use Rattle.events.proofs.AcceptedLaws.{phase-allows, leaves-taken}
+use Rattle.events.proofs.TakenLaws.{phase-allows, leaves-taken}
 use Rattle.events.proofs.Refused.{refused-keeps}
 use Rattle.runs.specs.Run.{afterAll, isAccepted, acceptedOf, speakersOf, looksIn, GoesOn}
 use Rattle.runs.proofs.RunLaws.{looks-append, goes-on}

@@ -29,7 +29,7 @@ use Rattle.judgement.specs.declared.turns.Verdict.{Verdict}
 use Rattle.judgement.proofs.TableLaws.{each-kind, cycle-row, no-row}
 use Rattle.events.specs.Machine.{Machine, machine}
 use Rattle.events.specs.Step.{stepBy, refusalIn, after}
-use Rattle.events.proofs.AcceptedLaws.{in-sense, has-passed, phase-allows, leaves-taken}
+use Rattle.events.proofs.TakenLaws.{in-sense, has-passed, phase-allows, leaves-taken}
 use Rattle.events.proofs.EachStep.{acknowledge-does}
 use Rattle.events.proofs.Refused.{refused-keeps, refused-by-number}
 use Rattle.runs.specs.Run.{afterAll, isAccepted}

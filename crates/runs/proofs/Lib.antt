@@ -1,4 +1,5 @@
 -- Laws of runs, and the promises' proofs.
+pub mod AllRefused
 pub mod ArbitrationRuns
 pub mod AsComputed
 pub mod BusRuns

@@ -1,4 +1,4 @@
--- Single runs: three rounds that fall short, among other events, and the marked table (01, "Marked for proof").
+-- Single runs: three rounds that fall short, among other events, a run of refusals, and the marked table (01, "Marked for proof").
 use Prim.Native.Nat.{ℕ, _≤_}
 use mathlib.Core.Path.{_≡_}
 use mathlib.Core.Bool.{true, false}
@@ -20,7 +20,7 @@ use Rattle.judgement.specs.Refusals.{hasWrongBuffers, pageAt}
 use Rattle.judgement.specs.declared.event.Event.{Event}
 use Rattle.events.specs.Machine.{Machine, machine}
 use Rattle.events.specs.Step.{refusalIn, after, answerTo}
-use Rattle.runs.specs.Run.{afterAll, IsRound}
+use Rattle.runs.specs.Run.{afterAll, looksIn, IsRound}
 use Rattle.runs.specs.Promises.{spoken, lookBy, acknowledge}
 
 -- ---- Events
@@ -73,6 +73,11 @@ pub record ThreeRoundsFallShort (memory ports : List ℕ) : Type 0 where
 
 abbrev pub ThreeRounds : Type 0
 ThreeRounds = (memory ports : List ℕ) → Right memory ports → ThreeRoundsFallShort memory ports
+
+-- With no memory at all every event is refused: no look counts, and nothing changes.
+pub record AllRefused : Type 0 where
+  pub looks : looksIn (contending [] []) roundOne ≡ []
+  pub same : afterAll (contending [] []) roundOne ≡ contending [] []
 
 -- ---- The marked table
 
