@@ -1,6 +1,7 @@
 -- What an accepted cycle does, kind by kind.
 use Prim.Native.Nat.{ℕ, _+_, _%_, _<_, _≤_}
 use mathlib.Core.Path.{_≡_, refl, sym, subst, ap, _∙_}
+use mathlib.Core.Logic.{⊎-elim, inl, inr}
 use mathlib.Core.Bool.{Bool, true, false, not, _&&_, _||_, and-eq-true-iff}
 use mathlib.Core.List.{List}
 use native.Mathlib.Nat.{mod-eq-of-lt}
@@ -9,20 +10,38 @@ use lib.Dec.{eqb, leb, ltb}
 use lib.ListN.{length, getD, set}
 use borrow.Author.Tests.{eqb-true, ltb-false, lt-ltb, not-false}
 use Rattle.words.specs.Among.{isAmong, beside}
-use Rattle.words.proofs.TestLaws.{neither-of}
+use Rattle.words.proofs.TestLaws.{either-of, neither-of}
 use Rattle.phases.specs.Kind as Kind
+use Rattle.phases.specs.Control.{allowsCycles}
+use Rattle.phases.specs.Driver.{driversIn}
 use Rattle.phases.specs.Status.{statusOf}
 use Rattle.memory.specs.Halves.{evenHalf, oddHalf, wordOf}
 use Rattle.memory.specs.Cycles.{inOneCycle, hasWord, afterWordWrite}
 use Rattle.memory.proofs.Moves.{byte-moves, word-moves, same-bytes}
-use Rattle.judgement.specs.Table.{permanentMaster, rowIn}
+use Rattle.judgement.specs.Table.{Speaker, permanentMaster, masterOf, hasTurn, rowOf, rowIn}
 use Rattle.judgement.specs.Refusals.{hasStrayField, isTooWide, pageAt}
+use Rattle.judgement.proofs.TableLaws.{CycleRow, cycle-row}
 use Rattle.judgement.specs.declared.event.Event.{Event}
 use Rattle.events.specs.Machine.{Machine}
 use Rattle.events.specs.Cycles.{byteOf}
 use Rattle.events.specs.Answers.{wordSignals}
-use Rattle.events.specs.Promises.{Accepted, Moves, onPage, asked, ByteReadDoes, OpcodeFetchDoes, ByteWriteDoes, InputDoes, OutputDoes, WordReadDoes, WordWriteDoes}
-use Rattle.events.proofs.TakenLaws.{right-buffers, has-passed, does}
+use Rattle.events.specs.Promises.{
+  SpeakerDrives,
+  allPermanent,
+  allCard,
+  Accepted,
+  Moves,
+  onPage,
+  asked,
+  ByteReadDoes,
+  OpcodeFetchDoes,
+  ByteWriteDoes,
+  InputDoes,
+  OutputDoes,
+  WordReadDoes,
+  WordWriteDoes,
+}
+use Rattle.events.proofs.TakenLaws.{right-buffers, has-passed, phase-allows, speaker-has-turn, does}
 
 module _ (k : ℕ) (m : Machine) (event : Event) (ok : Accepted k m event) where
   abbrev a : ℕ
@@ -141,3 +160,32 @@ word-write-does m event ok sixteen page =
 
     here : hasWord (m .memory) (event .address) ≡ true
     here = a-word Kind.wordWrite m event ok refl refl
+
+-- ---- Who drives
+
+pub speaker-drives : SpeakerDrives
+speaker-drives m event low high ok =
+    ⊎-elim (λ early. ⊎-elim (λ e. inl (first e)) (λ e. inl (second e)) (either-of (eqb phase 0) (eqb phase 1) early)) (λ e. inr (owned e))
+    (either-of (eqb phase 0 || eqb phase 1) (eqb phase 4) allowed)
+  where
+    phase : ℕ
+    phase = m .bus .phase
+
+    row : CycleRow (rowOf (event .kind))
+    row = cycle-row (event .kind) low high
+
+    allowed : allowsCycles phase ≡ true
+    allowed = ap (λ (allows : ℕ → Bool). allows phase) (sym (row .allows)) ∙ phase-allows m event ok (event .kind) refl
+
+    speaks : event .speaker ≡ masterOf (m .bus)
+    speaks =
+        eqb-true _ _ (ap (λ (who : Speaker). hasTurn who (m .bus) (event .speaker)) (sym (row .speaker)) ∙ speaker-has-turn m event ok (event .kind) refl)
+
+    first : eqb phase 0 ≡ true → (event .speaker ≡ permanentMaster) × (driversIn phase ≡ allPermanent)
+    first e = let at : m .bus .phase ≡ 0 = eqb-true _ _ e in (speaks ∙ rw at, ap driversIn at)
+
+    second : eqb phase 1 ≡ true → (event .speaker ≡ permanentMaster) × (driversIn phase ≡ allPermanent)
+    second e = let at : m .bus .phase ≡ 1 = eqb-true _ _ e in (speaks ∙ rw at, ap driversIn at)
+
+    owned : eqb phase 4 ≡ true → (event .speaker ≡ m .bus .granted) × (driversIn phase ≡ allCard)
+    owned e = let at : m .bus .phase ≡ 4 = eqb-true _ _ e in (speaks ∙ rw at, ap driversIn at)

@@ -19,6 +19,7 @@ use Rattle.bus.specs.Refusal as Refusal
 use Rattle.bus.specs.Sense.{makesSense}
 use Rattle.bus.specs.State.{nobody, silent, changed, withPages, linesOf}
 use Rattle.bus.specs.declared.state.Bus.{Bus}
+use Rattle.judgement.specs.Table.{permanentMaster}
 use Rattle.judgement.specs.Refusals.{hasWrongBuffers}
 use Rattle.judgement.specs.Judge.{reasonsAgainst}
 use Rattle.judgement.specs.declared.event.Event.{Event}
@@ -218,6 +219,13 @@ WordWriteDoes =
     (asked sixteen)
     sWO
     (onPage sixteen (event .datum))
+
+-- In an accepted cycle the speaker drives all four groups of lines: it is the permanent master, or in the owned phase the granted card.
+abbrev pub SpeakerDrives : Type 0
+SpeakerDrives =
+    (m : Machine) (event : Event) → Kind.byteRead ≤ event .kind → event .kind ≤ Kind.output → refusalIn m event ≡ Refusal.accepted
+    → ((event .speaker ≡ permanentMaster) × (driversIn (m .bus .phase) ≡ allPermanent))
+    ⊎ ((event .speaker ≡ m .bus .granted) × (driversIn (m .bus .phase) ≡ allCard))
 
 -- ---- A word over either page
 
