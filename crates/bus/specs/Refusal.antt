@@ -24,7 +24,7 @@ namesNobody = 0x04
 abbrev pub notFitted : ℕ
 notFitted = 0x05
 
--- the phase doesn't allow it
+-- out of its phase
 abbrev pub wrongPhase : ℕ
 wrongPhase = 0x06
 
@@ -36,7 +36,7 @@ notItsTurn = 0x07
 abbrev pub unsettled : ℕ
 unsettled = 0x08
 
--- a word at an odd address
+-- a word that begins at an odd byte
 abbrev pub oddWord : ℕ
 oddWord = 0x09
 

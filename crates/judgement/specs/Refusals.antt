@@ -11,7 +11,7 @@ use Rattle.bus.specs.declared.state.Bus.{Bus}
 use Rattle.judgement.specs.Table.{permanentMaster, hasTurn, rowOf, listsSpeaker, listsAddress, listsDatum}
 use Rattle.judgement.specs.declared.event.Event.{Event}
 
--- 01: the memory isn't 65,536 bytes, or the ports not 256
+-- 01: a length other than 65,536 of the memory, or other than 256 of the ports
 abbrev pub hasWrongBuffers : List ℕ → List ℕ → Bool
 hasWrongBuffers memory ports = not (eqb (length memory) 0x10000 && eqb (length ports) 0x100)
 
@@ -36,7 +36,7 @@ isMalformed event =
     || hasStrayField event
     || isTooWide event
 
--- 04: a request for no card
+-- 04: a request with an empty set
 abbrev pub namesNobody : Event → Bool
 namesNobody event = eqb (event .kind) Kind.request && not (someCard (event .datum))
 
@@ -46,7 +46,7 @@ namesUnfitted fitted event =
     listsSpeaker (event .kind) && leb (event .speaker) 15 && not (cardIn fitted (event .speaker))
     || eqb (event .kind) Kind.request && not (isWithin (event .datum) fitted)
 
--- 06: the phase doesn't allow the kind
+-- 06: the kind is out of its phase
 abbrev pub isWrongPhase : Bus → Event → Bool
 isWrongPhase bus event = not (rowOf (event .kind) .allows (bus .phase))
 
@@ -58,7 +58,7 @@ isNotItsTurn bus event = not (hasTurn (rowOf (event .kind) .speaker) bus (event 
 abbrev pub isUnsettled : Bus → Event → Bool
 isUnsettled bus event = eqb (event .kind) Kind.acknowledge && not (isSettled bus)
 
--- 09: a word at an odd address
+-- 09: a word that begins at an odd byte
 abbrev pub isOddWord : Event → Bool
 isOddWord event = Kind.isWord (event .kind) && not (eqb (event .address % 2) 0)
 

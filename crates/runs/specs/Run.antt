@@ -1,4 +1,4 @@
--- A run: events one after another, each given the bus, the memory and the ports that the one before left (01, "State and phases").
+-- A run: a list of events, each of which finds what its predecessor left of bus, memory and ports (01, "State and phases").
 use Prim.Native.Nat.{ℕ}
 use mathlib.Core.Path.{_≡_}
 use mathlib.Core.Bool.{Bool, true, false, cond, _||_}
