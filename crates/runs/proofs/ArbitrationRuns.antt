@@ -17,10 +17,10 @@ use Rattle.judgement.specs.declared.event.Event.{Event}
 use Rattle.judgement.specs.declared.turns.Verdict.{Verdict}
 use Rattle.judgement.proofs.TableLaws.{each-kind, cycle-row, no-row}
 use Rattle.events.specs.Machine.{Machine}
-use Rattle.events.specs.Step.{stepBy, refusalIn, after}
+use Rattle.events.specs.Step.{stepBy, refusalIn}
 use Rattle.events.proofs.TakenLaws.{phase-allows, leaves-taken}
 use Rattle.events.proofs.Refused.{refused-keeps}
-use Rattle.runs.specs.Run.{afterAll, isAccepted, acceptedOf, speakersOf, looksIn, GoesOn}
+use Rattle.runs.specs.Run.{Call, machineOf, refusalOn, busAfter, afterAll, isAccepted, acceptedOf, speakersOf, looksIn, GoesOn}
 use Rattle.runs.proofs.RunLaws.{looks-append, goes-on}
 
 -- the look that an event of a kind is, if it is one
@@ -47,19 +47,21 @@ by-kind bus event =
     (λ a g r. absurd (true≢false r))
     (λ k h a g r. absurd (true≢false (sym (sym (ap (λ (x : Row). x .allows Phase.arbitration) (no-row k h)) ∙ a))))
 
--- the same of an event that may be refused
-one-event : (m : Machine) (event : Event) → m .bus .phase ≡ Phase.arbitration
-    → (isAccepted m event ≡ true → (eqb (event .kind) Kind.acknowledge ≡ false) × (eqb (event .kind) Kind.reset ≡ false))
-    → after m event .bus ≡ afterLooksOf (m .bus) (looksIn m (event ∷ []))
+-- the same of a call that may be refused
+one-call : (bus : Bus) (c : Call) → bus .phase ≡ Phase.arbitration
+    → (isAccepted bus c ≡ true → (eqb (c .event .kind) Kind.acknowledge ≡ false) × (eqb (c .event .kind) Kind.reset ≡ false))
+    → busAfter bus c ≡ afterLooksOf bus (looksIn bus (c ∷ []))
 unfolding acceptedOf speakersOf lookOf afterLooksOf
-one-event m event phase stays = go (isAccepted m event) refl
+one-call bus c phase stays = go (isAccepted bus c) refl
   where
-    go : (b : Bool) → isAccepted m event ≡ b → after m event .bus ≡ afterLooksOf (m .bus) (speakersOf Kind.look (cond b (event ∷ []) []))
+    go : (b : Bool) → isAccepted bus c ≡ b → busAfter bus c ≡ afterLooksOf bus (speakersOf Kind.look (cond b (c .event ∷ []) []))
     go true e =
+        let m = machineOf bus c in
+        let event = c .event in
         let ok = eqb-true (refusalIn m event) 0 e in
         ap (λ (x : Machine). x .bus) (leaves-taken m event ok)
-        ∙ by-kind (m .bus) event (event .kind) (subst (λ (p : ℕ). rowOf (event .kind) .allows p ≡ true) phase (phase-allows m event ok (event .kind) refl)) (stays e .0) (stays e .1)
-    go false e = ap (λ (x : Machine). x .bus) (refused-keeps m event (eqb-false (refusalIn m event) 0 e))
+        ∙ by-kind bus event (event .kind) (subst (λ (p : ℕ). rowOf (event .kind) .allows p ≡ true) phase (phase-allows m event ok (event .kind) refl)) (stays e .0) (stays e .1)
+    go false e = ap (λ (x : Machine). x .bus) (refused-keeps (machineOf bus c) (c .event) (eqb-false (refusalOn bus c) 0 e))
 
 -- looks leave the phase, the contenders and what is granted
 looks-keep : (bus : Bus) → bus .phase ≡ Phase.arbitration → (looks : List ℕ)
@@ -67,25 +69,24 @@ looks-keep : (bus : Bus) → bus .phase ≡ Phase.arbitration → (looks : List 
 looks-keep bus phase looks = let same = looks-drive bus phase looks in (ap (λ (b : Bus). b .phase) same ∙ phase, ap (λ (b : Bus). b .contenders) same)
 
 -- and so of a whole run
-pub run-looks : (events : List Event) (m : Machine) → m .bus .phase ≡ Phase.arbitration → GoesOn m events
-    → afterAll m events .bus ≡ afterLooksOf (m .bus) (looksIn m events)
+pub run-looks : (calls : List Call) (bus : Bus) → bus .phase ≡ Phase.arbitration → GoesOn bus calls → afterAll bus calls ≡ afterLooksOf bus (looksIn bus calls)
 unfolding afterAll acceptedOf speakersOf afterLooksOf
-run-looks [] m phase on = refl
-run-looks (event ∷ events) m phase on =
-    run-looks events (after m event) (ap (λ (b : Bus). b .phase) first ∙ looks-keep (m .bus) phase (looksIn m (event ∷ [])) .0) (here .1)
-    ∙ ap (λ (b : Bus). afterLooksOf b (looksIn (after m event) events)) first
-    ∙ sym (bus-looks-append (m .bus) (looksIn m (event ∷ [])) (looksIn (after m event) events))
-    ∙ ap (afterLooksOf (m .bus)) (sym (looks-append m (event ∷ []) events))
+run-looks [] bus phase on = refl
+run-looks (c ∷ calls) bus phase on =
+    run-looks calls (busAfter bus c) (ap (λ (b : Bus). b .phase) first ∙ looks-keep bus phase (looksIn bus (c ∷ [])) .0) (here .1)
+    ∙ ap (λ (b : Bus). afterLooksOf b (looksIn (busAfter bus c) calls)) first
+    ∙ sym (bus-looks-append bus (looksIn bus (c ∷ [])) (looksIn (busAfter bus c) calls))
+    ∙ ap (afterLooksOf bus) (sym (looks-append bus (c ∷ []) calls))
   where
-    here : (isAccepted m event ≡ true → (eqb (event .kind) Kind.acknowledge ≡ false) × (eqb (event .kind) Kind.reset ≡ false)) × GoesOn (after m event) events
-    here = goes-on m event events on
+    here : (isAccepted bus c ≡ true → (eqb (c .event .kind) Kind.acknowledge ≡ false) × (eqb (c .event .kind) Kind.reset ≡ false)) × GoesOn (busAfter bus c) calls
+    here = goes-on bus c calls on
 
-    first : after m event .bus ≡ afterLooksOf (m .bus) (looksIn m (event ∷ []))
-    first = one-event m event phase (here .0)
+    first : busAfter bus c ≡ afterLooksOf bus (looksIn bus (c ∷ []))
+    first = one-call bus c phase (here .0)
 
-pub run-keeps : (events : List Event) (m : Machine) → m .bus .phase ≡ Phase.arbitration → GoesOn m events
-    → (afterAll m events .bus .phase ≡ Phase.arbitration) × (afterAll m events .bus .contenders ≡ m .bus .contenders)
-run-keeps events m phase on =
-    let left = run-looks events m phase on in
-    let kept = looks-keep (m .bus) phase (looksIn m events) in
+pub run-keeps : (calls : List Call) (bus : Bus) → bus .phase ≡ Phase.arbitration → GoesOn bus calls
+    → (afterAll bus calls .phase ≡ Phase.arbitration) × (afterAll bus calls .contenders ≡ bus .contenders)
+run-keeps calls bus phase on =
+    let left = run-looks calls bus phase on in
+    let kept = looks-keep bus phase (looksIn bus calls) in
     (ap (λ (b : Bus). b .phase) left ∙ kept .0, ap (λ (b : Bus). b .contenders) left ∙ kept .1)

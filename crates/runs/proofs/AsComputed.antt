@@ -1,7 +1,7 @@
 -- The single runs, computed on the bus, for every memory of the right length.
 use Prim.Native.Nat.{ℕ, _≤_}
 use mathlib.Core.Path.{_≡_, refl, ap, _∙_}
-use mathlib.Core.Bool.{true, false}
+use mathlib.Core.Bool.{Bool, not, true, false}
 use mathlib.Core.List.{List, [], _++_}
 use lib.Dec.{eqb}
 use lib.ListN.{getD}
@@ -26,64 +26,78 @@ use Rattle.judgement.specs.Table.{rowIn}
 use Rattle.judgement.specs.Refusals.{pageAt}
 use Rattle.judgement.specs.Judge.{soundRefusal}
 use Rattle.judgement.specs.declared.event.Event.{Event}
+use Rattle.judgement.proofs.Passed.{sound-call}
 use Rattle.events.specs.Machine.{Machine}
-use Rattle.events.specs.Step.{refusalIn, after, answerTo}
+use Rattle.events.specs.Step.{refusalIn, answerTo}
 use Rattle.events.specs.declared.answers.Answer.{Answer}
 use Rattle.events.proofs.EachCycle.{word-read-does}
-use Rattle.runs.specs.Run.{afterAll, speakersOf, IsRound}
-use Rattle.runs.specs.Promises.{acknowledge}
-use Rattle.runs.specs.Examples.{cycle, looks, Right, contending, roundOne, roundTwo, roundThree, threeRounds, ThreeRounds, LinesAfter, AtRest, Present, Marked}
-use Rattle.runs.proofs.BusRuns.{Sound, busAfter, busAfterAll, acceptedOn, sound-refusal, sound-after, sound-run, run-of-the-bus, accepted-on-the-bus}
+use Rattle.runs.specs.Run.{call, refusalOn, busAfter, afterAll, acceptedOf, hasKind, speakersOf, IsRound}
+use Rattle.runs.specs.Promises.{acknowledge, Right}
+use Rattle.runs.specs.Examples.{cycle, lent, looks, over, roundOne, roundTwo, roundThree, threeRounds, ThreeRounds, LinesAfter, AtRest, Present, Marked}
+use Rattle.runs.proofs.BusRuns.{busStep, busRun, acceptedOn, refusalsFor, refusal-for, step-for, run-of-the-bus, accepted-on-the-bus, refusals-on-the-bus}
+use Rattle.runs.proofs.RunLaws.{sense-in-runs}
 
-contending-sound : (memory ports : List ℕ) → Right memory ports → Sound (contending memory ports)
+four-nine-ten-sense : makesSense fourNineTen ≡ true
 unfolding allBelow someCard isWithin everyListed drivingFits makesSense
-contending-sound memory ports right = record { right = right; sense = refl }
+four-nine-ten-sense = refl
 
 -- ---- Three rounds
 
--- a stretch is a round if it is one on the bus
-round-on : (before round : List Event) (m : Machine) → Sound m
-    → isRound (arbitrationOf (busAfterAll (m .bus) before)) (speakersOf Kind.look (acceptedOn (busAfterAll (m .bus) before) round)) ≡ true
-    → IsRound (afterAll m before) round
-round-on before round m s e =
-    ap (λ (l : List Event). isRound (arbitrationOf (afterAll m before .bus)) (speakersOf Kind.look l)) (accepted-on-the-bus round (afterAll m before) (sound-run before m s))
-    ∙ ap (λ (b : Bus). isRound (arbitrationOf b) (speakersOf Kind.look (acceptedOn b round))) (run-of-the-bus before m s)
-    ∙ e
+module _ (memory ports : List ℕ) (right : Right memory ports) where
+  abbrev end : List (Bool × Event) → Bus
+  end before = afterAll fourNineTen (over memory ports before)
 
--- what a run's end shows, as on the bus
-refused-on : (events : List Event) (event : Event) (m : Machine) → Sound m → refusalIn (afterAll m events) event ≡ soundRefusal (busAfterAll (m .bus) events) event
-refused-on events event m s = sound-refusal (afterAll m events) event (sound-run events m s) ∙ ap (λ (b : Bus). soundRefusal b event) (run-of-the-bus events m s)
+  ends : (before : List (Bool × Event)) → end before ≡ busRun fourNineTen before
+  ends before = run-of-the-bus memory ports right before fourNineTen four-nine-ten-sense
 
-next-on : (events : List Event) (event : Event) (m : Machine) → Sound m → after (afterAll m events) event .bus ≡ busAfter (busAfterAll (m .bus) events) event
-next-on events event m s = sound-after (afterAll m events) event (sound-run events m s) ∙ ap (λ (b : Bus). busAfter b event) (run-of-the-bus events m s)
+  -- a stretch is a round if it is one on the bus
+  round-on : (before round : List (Bool × Event))
+      → isRound (arbitrationOf (busRun fourNineTen before)) (speakersOf Kind.look (acceptedOn (busRun fourNineTen before) round)) ≡ true
+      → IsRound (end before) (over memory ports round)
+  round-on before round e =
+      ap (λ (l : List Event). isRound (arbitrationOf (end before)) (speakersOf Kind.look l))
+      (accepted-on-the-bus memory ports right round (end before) (sense-in-runs fourNineTen four-nine-ten-sense (over memory ports before)))
+      ∙ ap (λ (b : Bus). isRound (arbitrationOf b) (speakersOf Kind.look (acceptedOn b round))) (ends before)
+      ∙ e
+
+  -- no event of this kind is accepted, if none is on the bus
+  none-on : (kind : ℕ) (xs : List (Bool × Event)) → hasKind kind (acceptedOn fourNineTen xs) ≡ false → hasKind kind (acceptedOf fourNineTen (over memory ports xs)) ≡ false
+  none-on kind xs e = ap (hasKind kind) (accepted-on-the-bus memory ports right xs fourNineTen four-nine-ten-sense) ∙ e
+
+  -- an acknowledge after these
+  acknowledge-on : (before : List (Bool × Event)) → refusalOn (end before) (call acknowledge memory ports) ≡ soundRefusal (busRun fourNineTen before) acknowledge
+  acknowledge-on before =
+      refusal-for memory ports right (end before) (sense-in-runs fourNineTen four-nine-ten-sense (over memory ports before)) (lent acknowledge)
+      ∙ ap (λ (b : Bus). soundRefusal b acknowledge) (ends before)
+
+  grant-on : (before : List (Bool × Event)) → busAfter (end before) (call acknowledge memory ports) ≡ busStep (busRun fourNineTen before) (lent acknowledge)
+  grant-on before =
+      step-for memory ports right (end before) (sense-in-runs fourNineTen four-nine-ten-sense (over memory ports before)) (lent acknowledge)
+      ∙ ap (λ (b : Bus). busStep b (lent acknowledge)) (ends before)
 
 pub three-rounds : ThreeRounds
-unfolding afterAll allBelow orBelow look everyContender shown looked settled someCard isWithin isAmong isRound firstOf soundRefusal rowIn busAfterAll acceptedOn speakersOf looks
+unfolding afterAll over allBelow orBelow look everyContender shown looked settled someCard isWithin isAmong isRound firstOf soundRefusal rowIn busRun acceptedOn refusalsFor speakersOf hasKind looks
 three-rounds memory ports right = record {
-  one = round-on [] roundOne m s refl;
-  two = round-on roundOne roundTwo m s refl;
-  three = round-on (roundOne ++ roundTwo) roundThree m s refl;
-  lines = ap linesOf (run-of-the-bus threeRounds m s);
-  nobodys = ap (λ (b : Bus). cardIn (b .contenders) 11) (run-of-the-bus threeRounds m s);
-  refused = refused-on threeRounds acknowledge m s;
-  fourth = ap linesOf (run-of-the-bus (threeRounds ++ looks again) m s);
-  granted = ap (λ (b : Bus). b .granted) (next-on (threeRounds ++ looks again) acknowledge m s);
+  one = round-on memory ports right [] roundOne refl;
+  two = round-on memory ports right roundOne roundTwo refl;
+  three = round-on memory ports right (roundOne ++ roundTwo) roundThree refl;
+  goesOn = record { noGrant = none-on memory ports right Kind.acknowledge threeRounds refl; noReset = none-on memory ports right Kind.reset threeRounds refl };
+  refusals = refusals-on-the-bus memory ports right threeRounds fourNineTen four-nine-ten-sense;
+  lines = ap linesOf (ends memory ports right threeRounds);
+  nobodys = ap (λ (b : Bus). cardIn (fourNineTen .contenders) (linesOf b)) (ends memory ports right threeRounds);
+  refused = acknowledge-on memory ports right threeRounds;
+  fourth = ap linesOf (ends memory ports right (threeRounds ++ looks again));
+  granted = ap (λ (b : Bus). b .granted) (grant-on memory ports right (threeRounds ++ looks again));
 }
-  where
-    m : Machine
-    m = contending memory ports
-
-    s : Sound m
-    s = contending-sound memory ports right
 
 -- ---- The marked table
 
-lines-after : (cards : List ℕ) (lines : ℕ) → linesOf (busAfterAll fourNineTen (looks cards)) ≡ lines → LinesAfter cards lines
-lines-after cards lines e memory ports right = ap linesOf (run-of-the-bus (looks cards) (contending memory ports) (contending-sound memory ports right)) ∙ e
+lines-after : (cards : List ℕ) (lines : ℕ) → linesOf (busRun fourNineTen (looks cards)) ≡ lines → LinesAfter cards lines
+lines-after cards lines e memory ports right = ap linesOf (ends memory ports right (looks cards)) ∙ e
 
 -- at rest, a refusal is that of the bus
 rest-refusal : (m : Machine) → AtRest m → (event : Event) → refusalIn m event ≡ soundRefusal (m .bus) event
-rest-refusal m rest event = sound-refusal m event (record { right = rest .right; sense = rest .sense })
+rest-refusal m rest event = sound-call (m .bus) event (m .memory) (m .ports) (rest .right) (ap not (rest .sense))
 
 module _ (m : Machine) (rest : AtRest m) where
   word-read-accepted : pageAt (m .bus .pages) 0x000002 ≡ 1 → refusalIn m (cycle Kind.wordRead 0x000002 0) ≡ 0
@@ -131,7 +145,7 @@ module _ (m : Machine) (rest : AtRest m) where
       )
 
 pub marked : Marked
-unfolding allBelow orBelow look everyContender shown looked settled someCard isWithin isAmong firstOf soundRefusal rowIn busAfterAll looks everyListed drivingFits makesSense leastBelow afterLooksOf settledAfter leadingLooks neverSettles settleRefusal settleOf
+unfolding allBelow orBelow look everyContender shown looked settled someCard isWithin isAmong firstOf soundRefusal rowIn busRun looks everyListed drivingFits makesSense leastBelow afterLooksOf settledAfter leadingLooks neverSettles settleRefusal settleOf
 marked = record {
   m1 = lines-after first 12 refl;
   m2 = lines-after (first ++ again) 8 refl;
@@ -141,6 +155,7 @@ marked = record {
   m6 = ap (λ (s : Settlement). s .answer) (settle-on-the-bus .nine);
   m7 = (refl, refl);
   m8 = (refl, refl);
+  rest = λ memory ports right. record { right = right; sense = refl; free = refl };
   m9 = word-read-answer;
   m10 = λ m rest. (odd-read m rest, odd-write m rest);
   m11 = word-write-accepted;

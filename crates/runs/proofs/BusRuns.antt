@@ -1,68 +1,83 @@
--- A run with right buffers is a run of the bus alone: so runs on a known bus are computed whatever the memory holds.
-use mathlib.Core.Path.{_≡_, refl, ap, _∙_}
+-- With buffers in order the memory doesn't matter to the bus, and without them nothing happens: so runs on a known bus can be computed for every
+-- memory of the right length.
+use Prim.Native.Nat.{ℕ}
+use mathlib.Core.Path.{_≡_, refl, ap, ap₂, _∙_}
 use mathlib.Core.Bool.{Bool, true, false, not, cond}
 use mathlib.Core.List.{List, [], _∷_}
 use lib.Dec.{eqb}
+use Rattle.words.specs.First.{firstOf}
 use Rattle.bus.specs.Sense.{makesSense}
 use Rattle.bus.specs.declared.state.Bus.{Bus}
 use Rattle.judgement.specs.Table.{rowOf}
-use Rattle.judgement.specs.Refusals.{hasWrongBuffers}
-use Rattle.judgement.specs.Judge.{soundRefusal}
+use Rattle.judgement.specs.Judge.{soundRefusal, refusalOf}
 use Rattle.judgement.specs.declared.event.Event.{Event}
 use Rattle.judgement.proofs.Passed.{sound-call}
-use Rattle.events.specs.Machine.{Machine}
-use Rattle.events.specs.Step.{stepBy, takenBy, refusalIn, after}
+use Rattle.events.specs.Step.{stepBy, takenBy, afterAs, after}
 use Rattle.events.proofs.Stays.{sense-kept-by-events}
-use Rattle.runs.specs.Run.{afterAll, acceptedOf}
-use Rattle.runs.proofs.RunLaws.{buffers-in-runs}
+use Rattle.runs.specs.Run.{refusalOn, busAfter, machineOf, afterAll, acceptedOf}
+use Rattle.runs.specs.Promises.{Right}
+use Rattle.runs.specs.Examples.{callWith, over, refusalsOf}
 
-abbrev pub busAfter : Bus → Event → Bus
-busAfter bus event = cond (eqb (soundRefusal bus event) 0) (stepBy (rowOf (event .kind) .step) bus event) bus
+-- ---- The same run, of the bus alone
 
-unfoldable pub busAfterAll : Bus → List Event → Bus
-busAfterAll bus [] = bus
-busAfterAll bus (event ∷ events) = busAfterAll (busAfter bus event) events
+abbrev pub refusalFor : Bus → Bool × Event → ℕ
+refusalFor bus x = cond (x .0) (soundRefusal bus (x .1)) 1
 
-unfoldable pub acceptedOn : Bus → List Event → List Event
+abbrev pub busStep : Bus → Bool × Event → Bus
+busStep bus x = cond (eqb (refusalFor bus x) 0) (stepBy (rowOf (x .1 .kind) .step) bus (x .1)) bus
+
+unfoldable pub busRun : Bus → List (Bool × Event) → Bus
+busRun bus [] = bus
+busRun bus (x ∷ xs) = busRun (busStep bus x) xs
+
+unfoldable pub acceptedOn : Bus → List (Bool × Event) → List Event
 acceptedOn bus [] = []
-acceptedOn bus (event ∷ events) =
-    cond (eqb (soundRefusal bus event) 0) (event ∷ acceptedOn (busAfter bus event) events) (acceptedOn (busAfter bus event) events)
+acceptedOn bus (x ∷ xs) = cond (eqb (refusalFor bus x) 0) (x .1 ∷ acceptedOn (busStep bus x) xs) (acceptedOn (busStep bus x) xs)
 
--- the buffers are right, and the bus makes sense
-pub record Sound (m : Machine) : Type 0 where
-  pub right : hasWrongBuffers (m .memory) (m .ports) ≡ false
-  pub sense : makesSense (m .bus) ≡ true
+unfoldable pub refusalsFor : Bus → List (Bool × Event) → List ℕ
+refusalsFor bus [] = []
+refusalsFor bus (x ∷ xs) = refusalFor bus x ∷ refusalsFor (busStep bus x) xs
 
-pub sound-refusal : (m : Machine) (event : Event) → Sound m → refusalIn m event ≡ soundRefusal (m .bus) event
-sound-refusal m event s = sound-call (m .bus) event (m .memory) (m .ports) (s .right) (ap not (s .sense))
+module _ (memory ports : List ℕ) (right : Right memory ports) where
+  -- ---- One call
 
-pub sound-after : (m : Machine) (event : Event) → Sound m → after m event .bus ≡ busAfter (m .bus) event
-unfolding after
-sound-after m event s = rw (sound-refusal m event s) (go (eqb (soundRefusal (m .bus) event) 0))
-  where
-    go : (b : Bool) → cond b (takenBy (rowOf (event .kind) .step) m event) m .bus ≡ cond b (stepBy (rowOf (event .kind) .step) (m .bus) event) (m .bus)
-    go true = refl
-    go false = refl
+  pub refusal-for : (bus : Bus) → makesSense bus ≡ true → (x : Bool × Event) → refusalOn bus (callWith memory ports x) ≡ refusalFor bus x
+  unfolding refusalOf firstOf
+  refusal-for bus sense (true, event) = sound-call bus event memory ports right (ap not sense)
+  refusal-for bus sense (false, event) = refl
 
-sound-next : (m : Machine) (event : Event) → Sound m → Sound (after m event)
-unfolding afterAll
-sound-next m event s = record { right = buffers-in-runs (event ∷ []) m (s .right); sense = sense-kept-by-events m event (s .sense) }
+  pub step-for : (bus : Bus) → makesSense bus ≡ true → (x : Bool × Event) → busAfter bus (callWith memory ports x) ≡ busStep bus x
+  unfolding after
+  step-for bus sense x =
+      ap (λ (r : ℕ). afterAs r (machineOf bus (callWith memory ports x)) (x .1) .bus) (refusal-for bus sense x) ∙ go (eqb (refusalFor bus x) 0)
+    where
+      go : (b : Bool) → cond b (takenBy (rowOf (x .1 .kind) .step) (machineOf bus (callWith memory ports x)) (x .1)) (machineOf bus (callWith memory ports x)) .bus
+          ≡ cond b (stepBy (rowOf (x .1 .kind) .step) bus (x .1)) bus
+      go true = refl
+      go false = refl
 
-pub sound-run : (events : List Event) (m : Machine) → Sound m → Sound (afterAll m events)
-unfolding afterAll
-sound-run [] m s = s
-sound-run (event ∷ events) m s = sound-run events (after m event) (sound-next m event s)
+  keeps : (bus : Bus) → makesSense bus ≡ true → (x : Bool × Event) → makesSense (busAfter bus (callWith memory ports x)) ≡ true
+  keeps bus sense x = sense-kept-by-events (machineOf bus (callWith memory ports x)) (x .1) sense
 
-pub run-of-the-bus : (events : List Event) (m : Machine) → Sound m → afterAll m events .bus ≡ busAfterAll (m .bus) events
-unfolding afterAll busAfterAll
-run-of-the-bus [] m s = refl
-run-of-the-bus (event ∷ events) m s =
-    run-of-the-bus events (after m event) (sound-next m event s) ∙ ap (λ (b : Bus). busAfterAll b events) (sound-after m event s)
+  -- ---- Many
 
-pub accepted-on-the-bus : (events : List Event) (m : Machine) → Sound m → acceptedOf m events ≡ acceptedOn (m .bus) events
-unfolding acceptedOf acceptedOn
-accepted-on-the-bus [] m s = refl
-accepted-on-the-bus (event ∷ events) m s =
-    rw (sound-refusal m event s)
-    (ap (λ (rest : List Event). cond (eqb (soundRefusal (m .bus) event) 0) (event ∷ rest) rest)
-    (accepted-on-the-bus events (after m event) (sound-next m event s) ∙ ap (λ (b : Bus). acceptedOn b events) (sound-after m event s)))
+  pub run-of-the-bus : (xs : List (Bool × Event)) (bus : Bus) → makesSense bus ≡ true → afterAll bus (over memory ports xs) ≡ busRun bus xs
+  unfolding afterAll busRun over
+  run-of-the-bus [] bus sense = refl
+  run-of-the-bus (x ∷ xs) bus sense =
+      run-of-the-bus xs (busAfter bus (callWith memory ports x)) (keeps bus sense x) ∙ ap (λ (b : Bus). busRun b xs) (step-for bus sense x)
+
+  pub accepted-on-the-bus : (xs : List (Bool × Event)) (bus : Bus) → makesSense bus ≡ true → acceptedOf bus (over memory ports xs) ≡ acceptedOn bus xs
+  unfolding acceptedOf acceptedOn over
+  accepted-on-the-bus [] bus sense = refl
+  accepted-on-the-bus (x ∷ xs) bus sense =
+      rw (refusal-for bus sense x)
+      (ap (λ (rest : List Event). cond (eqb (refusalFor bus x) 0) (x .1 ∷ rest) rest)
+      (accepted-on-the-bus xs (busAfter bus (callWith memory ports x)) (keeps bus sense x) ∙ ap (λ (b : Bus). acceptedOn b xs) (step-for bus sense x)))
+
+  pub refusals-on-the-bus : (xs : List (Bool × Event)) (bus : Bus) → makesSense bus ≡ true → refusalsOf bus (over memory ports xs) ≡ refusalsFor bus xs
+  unfolding refusalsOf refusalsFor over
+  refusals-on-the-bus [] bus sense = refl
+  refusals-on-the-bus (x ∷ xs) bus sense =
+      ap₂ _∷_ (refusal-for bus sense x)
+      (refusals-on-the-bus xs (busAfter bus (callWith memory ports x)) (keeps bus sense x) ∙ ap (λ (b : Bus). refusalsFor b xs) (step-for bus sense x))

@@ -21,43 +21,41 @@ use Rattle.bus.specs.Refusal as Refusal
 use Rattle.bus.specs.State.{changed, arbitrationOf, linesOf, isSettled}
 use Rattle.bus.specs.Steps.{afterLooksOf}
 use Rattle.bus.specs.Promises.{Sensible}
+use Rattle.bus.specs.declared.state.Bus.{Bus}
 use Rattle.bus.proofs.SenseLaws.{sense-means}
 use Rattle.bus.proofs.Granting.{looks-drive, four-rounds}
 use Rattle.judgement.specs.Table.{rowIn}
-use Rattle.judgement.specs.Refusals.{hasWrongBuffers}
 use Rattle.judgement.specs.Judge.{soundRefusal}
-use Rattle.judgement.specs.declared.event.Event.{Event}
 use Rattle.judgement.proofs.Passed.{Passed, accepts, sound-call}
-use Rattle.events.specs.Machine.{Machine}
-use Rattle.events.specs.Step.{refusalIn, after}
+use Rattle.events.specs.Machine.{Machine, machine}
 use Rattle.events.proofs.EachStep.{look-does, acknowledge-does}
-use Rattle.runs.specs.Run.{afterAll, looksIn, IsRound, GoesOn}
-use Rattle.runs.specs.Promises.{lookBy, acknowledge, Arbitrates, FourRoundsOfEvents, SettledStays, Restless, AcknowledgeRefused}
-use Rattle.runs.proofs.RunLaws.{looks-append, goes-on-parts, sense-in-runs, buffers-in-runs}
+use Rattle.runs.specs.Run.{Call, call, refusalOn, busAfter, afterAll, looksIn, IsRound, GoesOn}
+use Rattle.runs.specs.Promises.{lookBy, acknowledge, Right, Arbitrates, FourRoundsOfEvents, SettledStays, Restless, AcknowledgeRefused}
+use Rattle.runs.proofs.RunLaws.{looks-append, goes-on-parts, sense-in-runs}
 use Rattle.runs.proofs.ArbitrationRuns.{run-looks, run-keeps}
 
 -- ---- An acknowledge as it should be
 
-module _ (m : Machine) (here : Arbitrates m) (right : hasWrongBuffers (m .memory) (m .ports) ≡ false) where
+module _ (bus : Bus) (here : Arbitrates bus) (memory ports : List ℕ) (right : Right memory ports) where
   -- only the lines decide
-  acknowledge-refusal : refusalIn m acknowledge ≡ cond (isSettled (m .bus)) Refusal.accepted Refusal.unsettled
+  acknowledge-refusal : refusalOn bus (call acknowledge memory ports) ≡ cond (isSettled bus) Refusal.accepted Refusal.unsettled
   unfolding soundRefusal firstOf rowIn
-  acknowledge-refusal =
-      sound-call (m .bus) acknowledge (m .memory) (m .ports) right (ap not (here .sense)) ∙ rw (here .phase) (go (isSettled (m .bus)))
+  acknowledge-refusal = sound-call bus acknowledge memory ports right (ap not (here .sense)) ∙ rw (here .phase) (go (isSettled bus))
     where
       go : (b : Bool) → cond (not b) Refusal.unsettled 0 ≡ cond b Refusal.accepted Refusal.unsettled
       go true = refl
       go false = refl
 
-  accepted-settled : isSettled (m .bus) ≡ true → refusalIn m acknowledge ≡ Refusal.accepted
+  accepted-settled : isSettled bus ≡ true → refusalOn bus (call acknowledge memory ports) ≡ Refusal.accepted
   accepted-settled still = acknowledge-refusal ∙ rw still
 
 -- the lines are settled at this number: an acknowledge grants that card
-grants-next : (m : Machine) → Arbitrates m → hasWrongBuffers (m .memory) (m .ports) ≡ false → isSettled (m .bus) ≡ true → (card : ℕ) → linesOf (m .bus) ≡ card
-    → (refusalIn m acknowledge ≡ Refusal.accepted) × ((after m acknowledge .bus .phase ≡ Phase.granted) × (after m acknowledge .bus .granted ≡ card))
-grants-next m here right still card lines =
-    let ok = accepted-settled m here right still in
-    let left = acknowledge-does m acknowledge (refl, ok) .does .leaves in
+grants-next : (bus : Bus) → Arbitrates bus → isSettled bus ≡ true → (card : ℕ) → linesOf bus ≡ card → (memory ports : List ℕ) → Right memory ports
+    → (refusalOn bus (call acknowledge memory ports) ≡ Refusal.accepted)
+    × ((busAfter bus (call acknowledge memory ports) .phase ≡ Phase.granted) × (busAfter bus (call acknowledge memory ports) .granted ≡ card))
+grants-next bus here still card lines memory ports right =
+    let ok = accepted-settled bus here memory ports right still in
+    let left = acknowledge-does (machine bus memory ports) acknowledge (refl, ok) .does .leaves in
     (ok, (ap (λ (x : Machine). x .bus .phase) left, ap (λ (x : Machine). x .bus .granted) left ∙ lines))
 
 -- ---- Four rounds
@@ -72,99 +70,99 @@ joined l₁ l₂ l₃ l₄ l₅ =
     ∙ ap (λ (l : List ℕ). l₁ ++ (l₂ ++ (l₃ ++ l))) (sym (append-nil l₄)))
 
 pub four-rounds-of-events : FourRoundsOfEvents
-four-rounds-of-events m here card best r₁ r₂ r₃ r₄ further on e₁ e₂ e₃ e₄ = record {
+four-rounds-of-events bus here card best r₁ r₂ r₃ r₄ further on e₁ e₂ e₃ e₄ = record {
   arbitrates = arbitrating;
   contenders = kept .1;
   lines = lines;
   settled = still;
-  next = λ right. grants-next end arbitrating (buffers-in-runs all m right) still card lines;
+  next = grants-next end arbitrating still card lines;
 }
   where
-    all : List Event
+    all : List Call
     all = r₁ ++ r₂ ++ r₃ ++ r₄ ++ further
 
-    end : Machine
-    end = afterAll m all
+    end : Bus
+    end = afterAll bus all
 
-    kept : (end .bus .phase ≡ Phase.arbitration) × (end .bus .contenders ≡ m .bus .contenders)
-    kept = run-keeps all m (here .phase) on
+    kept : (end .phase ≡ Phase.arbitration) × (end .contenders ≡ bus .contenders)
+    kept = run-keeps all bus (here .phase) on
 
     arbitrating : Arbitrates end
-    arbitrating = record { sense = sense-in-runs all m (here .sense); phase = kept .0 }
+    arbitrating = record { sense = sense-in-runs bus (here .sense) all; phase = kept .0 }
 
-    on₄ : GoesOn m (r₁ ++ r₂ ++ r₃ ++ r₄)
-    on₄ = goes-on-parts m (r₁ ++ r₂ ++ r₃ ++ r₄) further on .0
+    on₄ : GoesOn bus (r₁ ++ r₂ ++ r₃ ++ r₄)
+    on₄ = goes-on-parts bus (r₁ ++ r₂ ++ r₃ ++ r₄) further on .0
 
-    on₃ : GoesOn m (r₁ ++ r₂ ++ r₃)
-    on₃ = goes-on-parts m (r₁ ++ r₂ ++ r₃) r₄ on₄ .0
+    on₃ : GoesOn bus (r₁ ++ r₂ ++ r₃)
+    on₃ = goes-on-parts bus (r₁ ++ r₂ ++ r₃) r₄ on₄ .0
 
-    on₂ : GoesOn m (r₁ ++ r₂)
-    on₂ = goes-on-parts m (r₁ ++ r₂) r₃ on₃ .0
+    on₂ : GoesOn bus (r₁ ++ r₂)
+    on₂ = goes-on-parts bus (r₁ ++ r₂) r₃ on₃ .0
 
-    on₁ : GoesOn m r₁
-    on₁ = goes-on-parts m r₁ r₂ on₂ .0
+    on₁ : GoesOn bus r₁
+    on₁ = goes-on-parts bus r₁ r₂ on₂ .0
 
     -- a round of the contenders there are after a part of the run is one of those there were at first
-    same-round : (events more : List Event) → GoesOn m events → IsRound (afterAll m events) more → isRound (arbitrationOf (m .bus)) (looksIn (afterAll m events) more) ≡ true
-    same-round events more goes round =
-        subst (λ (cards : ℕ). isRound (fourLines (λ n. cardIn cards n)) (looksIn (afterAll m events) more) ≡ true) (run-keeps events m (here .phase) goes .1) round
+    same-round : (calls more : List Call) → GoesOn bus calls → IsRound (afterAll bus calls) more → isRound (arbitrationOf bus) (looksIn (afterAll bus calls) more) ≡ true
+    same-round calls more goes round =
+        subst (λ (cards : ℕ). isRound (fourLines (λ n. cardIn cards n)) (looksIn (afterAll bus calls) more) ≡ true) (run-keeps calls bus (here .phase) goes .1) round
 
-    looks : looksIn m all ≡ flatten (looksIn m r₁ ∷ looksIn (afterAll m r₁) r₂ ∷ looksIn (afterAll m (r₁ ++ r₂)) r₃ ∷ looksIn (afterAll m (r₁ ++ r₂ ++ r₃)) r₄ ∷ [])
-        ++ looksIn (afterAll m (r₁ ++ r₂ ++ r₃ ++ r₄)) further
+    four : List (List ℕ)
+    four = looksIn bus r₁ ∷ looksIn (afterAll bus r₁) r₂ ∷ looksIn (afterAll bus (r₁ ++ r₂)) r₃ ∷ looksIn (afterAll bus (r₁ ++ r₂ ++ r₃)) r₄ ∷ []
+
+    rest : List ℕ
+    rest = looksIn (afterAll bus (r₁ ++ r₂ ++ r₃ ++ r₄)) further
+
+    looks : looksIn bus all ≡ flatten four ++ rest
     looks =
-        looks-append m (r₁ ++ r₂ ++ r₃ ++ r₄) further
-        ∙ ap (λ (l : List ℕ). l ++ looksIn (afterAll m (r₁ ++ r₂ ++ r₃ ++ r₄)) further)
-        (looks-append m (r₁ ++ r₂ ++ r₃) r₄
-        ∙ ap (λ (l : List ℕ). l ++ looksIn (afterAll m (r₁ ++ r₂ ++ r₃)) r₄)
-        (looks-append m (r₁ ++ r₂) r₃ ∙ ap (λ (l : List ℕ). l ++ looksIn (afterAll m (r₁ ++ r₂)) r₃) (looks-append m r₁ r₂)))
-        ∙ joined (looksIn m r₁) (looksIn (afterAll m r₁) r₂) (looksIn (afterAll m (r₁ ++ r₂)) r₃) (looksIn (afterAll m (r₁ ++ r₂ ++ r₃)) r₄)
-        (looksIn (afterAll m (r₁ ++ r₂ ++ r₃ ++ r₄)) further)
+        looks-append bus (r₁ ++ r₂ ++ r₃ ++ r₄) further
+        ∙ ap (λ (l : List ℕ). l ++ rest)
+        (looks-append bus (r₁ ++ r₂ ++ r₃) r₄
+        ∙ ap (λ (l : List ℕ). l ++ looksIn (afterAll bus (r₁ ++ r₂ ++ r₃)) r₄)
+        (looks-append bus (r₁ ++ r₂) r₃ ∙ ap (λ (l : List ℕ). l ++ looksIn (afterAll bus (r₁ ++ r₂)) r₃) (looks-append bus r₁ r₂)))
+        ∙ joined (looksIn bus r₁) (looksIn (afterAll bus r₁) r₂) (looksIn (afterAll bus (r₁ ++ r₂)) r₃) (looksIn (afterAll bus (r₁ ++ r₂ ++ r₃)) r₄) rest
 
-    left : end .bus ≡ afterLooksOf (m .bus) (flatten (looksIn m r₁ ∷ looksIn (afterAll m r₁) r₂ ∷ looksIn (afterAll m (r₁ ++ r₂)) r₃ ∷ looksIn (afterAll m (r₁ ++ r₂ ++ r₃)) r₄ ∷ [])
-        ++ looksIn (afterAll m (r₁ ++ r₂ ++ r₃ ++ r₄)) further)
-    left = run-looks all m (here .phase) on ∙ ap (afterLooksOf (m .bus)) looks
+    left : end ≡ afterLooksOf bus (flatten four ++ rest)
+    left = run-looks all bus (here .phase) on ∙ ap (afterLooksOf bus) looks
 
-    settles : (linesOf (afterLooksOf (m .bus) (flatten (looksIn m r₁ ∷ looksIn (afterAll m r₁) r₂ ∷ looksIn (afterAll m (r₁ ++ r₂)) r₃ ∷ looksIn (afterAll m (r₁ ++ r₂ ++ r₃)) r₄ ∷ [])
-        ++ looksIn (afterAll m (r₁ ++ r₂ ++ r₃ ++ r₄)) further)) ≡ card)
-        × (isSettled (afterLooksOf (m .bus) (flatten (looksIn m r₁ ∷ looksIn (afterAll m r₁) r₂ ∷ looksIn (afterAll m (r₁ ++ r₂)) r₃ ∷ looksIn (afterAll m (r₁ ++ r₂ ++ r₃)) r₄ ∷ [])
-        ++ looksIn (afterAll m (r₁ ++ r₂ ++ r₃ ++ r₄)) further)) ≡ true)
+    settles : (linesOf (afterLooksOf bus (flatten four ++ rest)) ≡ card) × (isSettled (afterLooksOf bus (flatten four ++ rest)) ≡ true)
     settles =
-        four-rounds (m .bus) (here .sense) (here .phase) card best _ _ _ _ e₁ (same-round r₁ r₂ on₁ e₂) (same-round (r₁ ++ r₂) r₃ on₂ e₃)
+        four-rounds bus (here .sense) (here .phase) card best _ _ _ _ e₁ (same-round r₁ r₂ on₁ e₂) (same-round (r₁ ++ r₂) r₃ on₂ e₃)
         (same-round (r₁ ++ r₂ ++ r₃) r₄ on₃ e₄)
-        (looksIn (afterAll m (r₁ ++ r₂ ++ r₃ ++ r₄)) further)
+        rest
 
-    lines : linesOf (end .bus) ≡ card
+    lines : linesOf end ≡ card
     lines = ap linesOf left ∙ settles .0
 
-    still : isSettled (end .bus) ≡ true
+    still : isSettled end ≡ true
     still = ap isSettled left ∙ settles .1
 
 -- ---- Settled lines
 
 pub settled-stays : SettledStays
-settled-stays m here still events on =
-    run-looks events m (here .phase) on
-    ∙ looks-drive (m .bus) (here .phase) (looksIn m events)
-    ∙ ap (λ (levels : List ℕ). changed (m .bus) (m .bus .phase) (m .bus .contenders) levels (m .bus .granted))
-    (lines-stay (arbitrationOf (m .bus)) (m .bus .driven) (sense-means (m .bus) .0 (here .sense) .sixteenLevels) still (looksIn m events))
+settled-stays bus here still calls on =
+    run-looks calls bus (here .phase) on
+    ∙ looks-drive bus (here .phase) (looksIn bus calls)
+    ∙ ap (λ (levels : List ℕ). changed bus (bus .phase) (bus .contenders) levels (bus .granted))
+    (lines-stay (arbitrationOf bus) (bus .driven) (sense-means bus .0 (here .sense) .sixteenLevels) still (looksIn bus calls))
 
 -- ---- Refused exactly if some contender is restless
 
-module _ (m : Machine) (here : Arbitrates m) (right : hasWrongBuffers (m .memory) (m .ports) ≡ false) where
-  sensible : Sensible (m .bus)
-  sensible = sense-means (m .bus) .0 (here .sense)
+module _ (bus : Bus) (here : Arbitrates bus) (memory ports : List ℕ) (right : Right memory ports) where
+  sensible : Sensible bus
+  sensible = sense-means bus .0 (here .sense)
 
   -- a contender's look is accepted
-  look-passes : (card : ℕ) → Contender (arbitrationOf (m .bus)) card → refusalIn m (lookBy card) ≡ 0
+  look-passes : (card : ℕ) → Contender (arbitrationOf bus) card → refusalOn bus (call (lookBy card) memory ports) ≡ 0
   unfolding rowIn
   look-passes card k =
-      sound-call (m .bus) (lookBy card) (m .memory) (m .ports) right (ap not (here .sense))
-      ∙ accepts (m .bus) (lookBy card) (passes (le-ltb 0x10 card (omega (arith, below))) (sensible .contendersFitted card (k .contending)))
+      sound-call bus (lookBy card) memory ports right (ap not (here .sense))
+      ∙ accepts bus (lookBy card) (passes (le-ltb 0x10 card (omega (arith, below))) (sensible .contendersFitted card (k .contending)))
     where
       below : card < 16
       below = k .present
 
-      passes : ltb 0x10 card ≡ false → cardIn (m .bus .fitted) card ≡ true → Passed (m .bus) (lookBy card)
+      passes : ltb 0x10 card ≡ false → cardIn (bus .fitted) card ≡ true → Passed bus (lookBy card)
       passes low fit = record {
         formed = rw low;
         names = refl;
@@ -177,40 +175,42 @@ module _ (m : Machine) (here : Arbitrates m) (right : hasWrongBuffers (m .memory
       }
 
   -- and leaves at its place what it looked
-  look-leaves : (card : ℕ) → Contender (arbitrationOf (m .bus)) card
-      → getD (after m (lookBy card) .bus .driven) card 0 ≡ looked (arbitrationOf (m .bus)) (m .bus .driven) card
+  look-leaves : (card : ℕ) → Contender (arbitrationOf bus) card
+      → getD (busAfter bus (call (lookBy card) memory ports) .driven) card 0 ≡ looked (arbitrationOf bus) (bus .driven) card
   unfolding looked
   look-leaves card k =
-      let left = look-does m (lookBy card) (refl, look-passes card k) .does .leaves in
+      let left = look-does (machine bus memory ports) (lookBy card) (refl, look-passes card k) .does .leaves in
       ap (λ (x : Machine). getD (x .bus .driven) card 0) left
-      ∙ getD-set-same (m .bus .driven) card _ 0 (subst (λ (n : ℕ). card < n) (sym (sensible .sixteenLevels)) (k .present))
+      ∙ getD-set-same (bus .driven) card _ 0 (subst (λ (n : ℕ). card < n) (sym (sensible .sixteenLevels)) (k .present))
 
   -- from lines that are not settled to a contender that is restless
-  restless : isSettled (m .bus) ≡ false → Restless m
+  restless : isSettled bus ≡ false → Restless bus memory ports
   unfolding settled everyContender
   restless moving =
-      let found = some-not (λ q. not (cardIn (m .bus .contenders) q) || eqb (looked (arbitrationOf (m .bus)) (m .bus .driven) q) (getD (m .bus .driven) q 0)) 16 moving in
-      let each = neither-of (not (cardIn (m .bus .contenders) (found .0))) (eqb (looked (arbitrationOf (m .bus)) (m .bus .driven) (found .0)) (getD (m .bus .driven) (found .0) 0)) (found .1 .1) in
-      let k : Contender (arbitrationOf (m .bus)) (found .0) = record { present = found .1 .0; contending = not-false _ (each .0) } in
+      let found = some-not (λ q. not (cardIn (bus .contenders) q) || eqb (looked (arbitrationOf bus) (bus .driven) q) (getD (bus .driven) q 0)) 16 moving in
+      let each = neither-of (not (cardIn (bus .contenders) (found .0))) (eqb (looked (arbitrationOf bus) (bus .driven) (found .0)) (getD (bus .driven) (found .0) 0)) (found .1 .1) in
+      let k : Contender (arbitrationOf bus) (found .0) = record { present = found .1 .0; contending = not-false _ (each .0) } in
       (found .0, (k, λ same. eqb-false _ _ (each .1) (sym (look-leaves (found .0) k) ∙ same)))
 
   -- and back
-  settled-rest : isSettled (m .bus) ≡ true → Restless m → ⊥
-  settled-rest still (card, (k, moves)) = moves (look-leaves card k ∙ settled-at (arbitrationOf (m .bus)) (m .bus .driven) still card k)
+  settled-rest : isSettled bus ≡ true → Restless bus memory ports → ⊥
+  settled-rest still (card, (k, moves)) = moves (look-leaves card k ∙ settled-at (arbitrationOf bus) (bus .driven) still card k)
 
 pub acknowledge-refused : AcknowledgeRefused
-acknowledge-refused m here right = go (true-or-false (isSettled (m .bus)))
+acknowledge-refused bus here memory ports right = go (true-or-false (isSettled bus))
   where
     Refused : Type 0
-    Refused = refusalIn m acknowledge ≡ Refusal.accepted → ⊥
+    Refused = refusalOn bus (call acknowledge memory ports) ≡ Refusal.accepted → ⊥
 
-    go : (isSettled (m .bus) ≡ true) ⊎ (isSettled (m .bus) ≡ false) → (Refused ↔ Restless m) × (Refused → refusalIn m acknowledge ≡ Refusal.unsettled)
-    go (inl still) = (
-      (λ refused. absurd (refused (accepted-settled m here right still)), λ moves. absurd (settled-rest m here right still moves)),
-      λ refused. absurd (refused (accepted-settled m here right still)),
-    )
+    go : (isSettled bus ≡ true) ⊎ (isSettled bus ≡ false)
+        → (Refused ↔ Restless bus memory ports) × (Refused → refusalOn bus (call acknowledge memory ports) ≡ Refusal.unsettled)
+    go (inl still) =
+        let ok = accepted-settled bus here memory ports right still in (
+          (λ refused. absurd (refused ok), λ moves. absurd (settled-rest bus here memory ports right still moves)),
+          λ refused. absurd (refused ok),
+        )
     go (inr moving) =
-        let eight : refusalIn m acknowledge ≡ Refusal.unsettled = acknowledge-refusal m here right ∙ rw moving in (
-          (λ refused. restless m here right moving, λ moves ok. omega (arith, sym ok ∙ eight)),
+        let eight : refusalOn bus (call acknowledge memory ports) ≡ Refusal.unsettled = acknowledge-refusal bus here memory ports right ∙ rw moving in (
+          (λ refused. restless bus here memory ports right moving, λ moves ok. omega (arith, sym ok ∙ eight)),
           λ refused. eight,
         )

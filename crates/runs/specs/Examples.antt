@@ -1,7 +1,7 @@
--- Single runs: three rounds that fall short, among other events, a run of refusals, and the marked table (01, "Marked for proof").
+-- Single runs: three rounds that fall short, among other calls, a run of refusals, and the marked table (01, "Marked for proof").
 use Prim.Native.Nat.{ℕ, _≤_}
 use mathlib.Core.Path.{_≡_}
-use mathlib.Core.Bool.{true, false}
+use mathlib.Core.Bool.{Bool, true, false, cond}
 use mathlib.Core.List.{List, [], _∷_, _++_}
 use lib.Dec.{eqb}
 use lib.ListN.{getD}
@@ -16,14 +16,14 @@ use Rattle.bus.specs.Settle.{settleOf}
 use Rattle.bus.specs.declared.state.Bus.{Bus}
 use Rattle.bus.specs.Examples.{eightBit, fourNineTen, first, again}
 use Rattle.judgement.specs.Table.{permanentMaster}
-use Rattle.judgement.specs.Refusals.{hasWrongBuffers, pageAt}
+use Rattle.judgement.specs.Refusals.{pageAt}
 use Rattle.judgement.specs.declared.event.Event.{Event}
 use Rattle.events.specs.Machine.{Machine, machine}
-use Rattle.events.specs.Step.{refusalIn, after, answerTo}
-use Rattle.runs.specs.Run.{afterAll, looksIn, IsRound}
-use Rattle.runs.specs.Promises.{spoken, lookBy, acknowledge}
+use Rattle.events.specs.Step.{refusalIn, answerTo}
+use Rattle.runs.specs.Run.{Call, call, refusalOn, busAfter, afterAll, looksIn, IsRound, GoesOn}
+use Rattle.runs.specs.Promises.{spoken, lookBy, acknowledge, Right}
 
--- ---- Events
+-- ---- Events and calls
 
 -- a cycle of the permanent master's
 abbrev pub cycle : ℕ → ℕ → ℕ → Event
@@ -32,58 +32,75 @@ cycle kind address datum = record { kind = kind; speaker = permanentMaster; addr
 abbrev pub request : ℕ → Event
 request cards = record { kind = Kind.request; speaker = 0; address = 0; datum = cards }
 
+-- an event that is lent memory and ports, and one that is lent none
+abbrev pub lent : Event → Bool × Event
+lent event = (true, event)
+
+abbrev pub unlent : Event → Bool × Event
+unlent event = (false, event)
+
+-- the call that it is
+abbrev pub callWith : List ℕ → List ℕ → Bool × Event → Call
+callWith memory ports x = call (x .1) (cond (x .0) memory []) (cond (x .0) ports [])
+
+unfoldable pub over : List ℕ → List ℕ → List (Bool × Event) → List Call
+over memory ports [] = []
+over memory ports (x ∷ xs) = callWith memory ports x ∷ over memory ports xs
+
 -- looks in this order
-unfoldable pub looks : List ℕ → List Event
+unfoldable pub looks : List ℕ → List (Bool × Event)
 looks [] = []
-looks (card ∷ cards) = lookBy card ∷ looks cards
+looks (card ∷ cards) = lent (lookBy card) ∷ looks cards
+
+-- the refusals along a run
+unfoldable pub refusalsOf : Bus → List Call → List ℕ
+refusalsOf bus [] = []
+refusalsOf bus (c ∷ calls) = refusalOn bus c ∷ refusalsOf (busAfter bus c) calls
 
 -- ---- 4, 9 and 10, nobody driving, with any memory and ports of the right lengths
 
-abbrev pub Right : List ℕ → List ℕ → Type 0
-Right memory ports = hasWrongBuffers memory ports ≡ false
+-- Three rounds with other calls among them: the permanent master reads a byte; refused are an acknowledge (08), an idle card's look (07), a
+-- request (06), a reset and a look without memory (01), and a reset with a speaker (03).
+abbrev pub roundOne : List (Bool × Event)
+roundOne = lent (lookBy 4) ∷ lent (cycle Kind.byteRead 0 0) ∷ lent (lookBy 9) ∷ lent acknowledge ∷ lent (lookBy 10) ∷ []
 
-abbrev pub contending : List ℕ → List ℕ → Machine
-contending memory ports = machine fourNineTen memory ports
+abbrev pub roundTwo : List (Bool × Event)
+roundTwo = lent (lookBy 9) ∷ lent (lookBy 2) ∷ lent (lookBy 10) ∷ lent (request 0x0002) ∷ lent (lookBy 4) ∷ []
 
--- Three rounds with other events among them: the permanent master reads a byte, and refused are an acknowledge (08), an idle card's look (07),
--- a request (06) and a reset with a speaker (03).
-abbrev pub roundOne : List Event
-roundOne = lookBy 4 ∷ cycle Kind.byteRead 0 0 ∷ lookBy 9 ∷ acknowledge ∷ lookBy 10 ∷ []
+abbrev pub roundThree : List (Bool × Event)
+roundThree =
+    lent (lookBy 9) ∷ unlent (spoken Kind.reset 0) ∷ unlent (lookBy 9) ∷ lent (spoken Kind.reset 1) ∷ lent (lookBy 10) ∷ lent (lookBy 4) ∷ []
 
-abbrev pub roundTwo : List Event
-roundTwo = lookBy 9 ∷ lookBy 2 ∷ lookBy 10 ∷ request 0x0002 ∷ lookBy 4 ∷ []
-
-abbrev pub roundThree : List Event
-roundThree = lookBy 9 ∷ spoken Kind.reset 1 ∷ lookBy 10 ∷ lookBy 4 ∷ []
-
-abbrev pub threeRounds : List Event
+abbrev pub threeRounds : List (Bool × Event)
 threeRounds = roundOne ++ roundTwo ++ roundThree
 
 pub record ThreeRoundsFallShort (memory ports : List ℕ) : Type 0 where
-  pub one : IsRound (contending memory ports) roundOne
-  pub two : IsRound (afterAll (contending memory ports) roundOne) roundTwo
-  pub three : IsRound (afterAll (contending memory ports) (roundOne ++ roundTwo)) roundThree
-  -- the lines show 11, a number that no contender has
-  pub lines : linesOf (afterAll (contending memory ports) threeRounds .bus) ≡ 11
-  pub nobodys : cardIn (afterAll (contending memory ports) threeRounds .bus .contenders) 11 ≡ false
-  pub refused : refusalIn (afterAll (contending memory ports) threeRounds) acknowledge ≡ Refusal.unsettled
+  pub one : IsRound fourNineTen (over memory ports roundOne)
+  pub two : IsRound (afterAll fourNineTen (over memory ports roundOne)) (over memory ports roundTwo)
+  pub three : IsRound (afterAll fourNineTen (over memory ports (roundOne ++ roundTwo))) (over memory ports roundThree)
+  pub goesOn : GoesOn fourNineTen (over memory ports threeRounds)
+  pub refusals : refusalsOf fourNineTen (over memory ports threeRounds) ≡ 0 ∷ 0 ∷ 0 ∷ 8 ∷ 0 ∷ 0 ∷ 7 ∷ 0 ∷ 6 ∷ 0 ∷ 0 ∷ 1 ∷ 1 ∷ 3 ∷ 0 ∷ 0 ∷ []
+  -- the lines show 11, and card 11 doesn't contend
+  pub lines : linesOf (afterAll fourNineTen (over memory ports threeRounds)) ≡ 11
+  pub nobodys : cardIn (fourNineTen .contenders) (linesOf (afterAll fourNineTen (over memory ports threeRounds))) ≡ false
+  pub refused : refusalOn (afterAll fourNineTen (over memory ports threeRounds)) (call acknowledge memory ports) ≡ Refusal.unsettled
   -- the fourth round brings 10, and its grant
-  pub fourth : linesOf (afterAll (contending memory ports) (threeRounds ++ looks again) .bus) ≡ 10
-  pub granted : after (afterAll (contending memory ports) (threeRounds ++ looks again)) acknowledge .bus .granted ≡ 10
+  pub fourth : linesOf (afterAll fourNineTen (over memory ports (threeRounds ++ looks again))) ≡ 10
+  pub granted : busAfter (afterAll fourNineTen (over memory ports (threeRounds ++ looks again))) (call acknowledge memory ports) .granted ≡ 10
 
 abbrev pub ThreeRounds : Type 0
 ThreeRounds = (memory ports : List ℕ) → Right memory ports → ThreeRoundsFallShort memory ports
 
--- With no memory at all every event is refused: no look counts, and nothing changes.
+-- Without memory and ports every call of the first round is refused: no look counts, and nothing changes.
 pub record AllRefused : Type 0 where
-  pub looks : looksIn (contending [] []) roundOne ≡ []
-  pub same : afterAll (contending [] []) roundOne ≡ contending [] []
+  pub looks : looksIn fourNineTen (over [] [] roundOne) ≡ []
+  pub same : afterAll fourNineTen (over [] [] roundOne) ≡ fourNineTen
 
 -- ---- The marked table
 
 -- the lines after these looks of 4, 9 and 10
 abbrev pub LinesAfter : List ℕ → ℕ → Type 0
-LinesAfter cards lines = (memory ports : List ℕ) → Right memory ports → linesOf (afterAll (contending memory ports) (looks cards) .bus) ≡ lines
+LinesAfter cards lines = (memory ports : List ℕ) → Right memory ports → linesOf (afterAll fourNineTen (over memory ports (looks cards))) ≡ lines
 
 -- in phase 0, with sense, and memory and ports of the right lengths
 pub record AtRest (m : Machine) : Type 0 where
@@ -94,7 +111,7 @@ pub record AtRest (m : Machine) : Type 0 where
 abbrev pub Present : Machine → ℕ → Type 0
 Present m address = eqb (pageAt (m .bus .pages) address) 0 ≡ false
 
--- one card alone, nobody driving
+-- these cards contend, nobody driving
 abbrev pub alone : ℕ → Bus
 alone cards = requested (freeBus 0xFFFF eightBit) cards
 
@@ -106,8 +123,11 @@ pub record Marked : Type 0 where
   pub m5 : (settleOf fourNineTen (first ++ again ++ again ++ again) .answer ≡ Refusal.accepted)
       × (settleOf fourNineTen (first ++ again ++ again ++ again) .looks ≡ 10)
   pub m6 : settleOf fourNineTen (first ++ again ++ again) .answer ≡ Refusal.unsettled
-  pub m7 : (settleOf (alone 0x0001) [] .answer ≡ Refusal.accepted) × (settleOf (alone 0x0001) [] .looks ≡ 0)
-  pub m8 : (settleOf (alone 0x0002) (1 ∷ []) .answer ≡ Refusal.accepted) × (settleOf (alone 0x0002) (1 ∷ []) .looks ≡ 1)
+  -- with looks to spare
+  pub m7 : (settleOf (alone 0x0001) (0 ∷ []) .answer ≡ Refusal.accepted) × (settleOf (alone 0x0001) (0 ∷ []) .looks ≡ 0)
+  pub m8 : (settleOf (alone 0x0002) (1 ∷ 1 ∷ []) .answer ≡ Refusal.accepted) × (settleOf (alone 0x0002) (1 ∷ 1 ∷ []) .looks ≡ 1)
+  -- there are such machines
+  pub rest : (memory ports : List ℕ) → Right memory ports → AtRest (machine (freeBus 0xFFFF eightBit) memory ports)
   pub m9 : (m : Machine) → AtRest m → pageAt (m .bus .pages) 0x000002 ≡ 1 → getD (m .memory) 0x000002 0 ≡ 0x12 → getD (m .memory) 0x000003 0 ≡ 0x34
       → (answerTo m (cycle Kind.wordRead 0x000002 0) .refusal ≡ Refusal.accepted)
       × ((answerTo m (cycle Kind.wordRead 0x000002 0) .datum ≡ 0x1234) × (answerTo m (cycle Kind.wordRead 0x000002 0) .cycles ≡ 2))

@@ -12,19 +12,27 @@ use Rattle.bus.specs.Refusal as Refusal
 use Rattle.bus.specs.State.{arbitrationOf, linesOf, isSettled}
 use Rattle.bus.specs.Sense.{makesSense}
 use Rattle.bus.specs.Setup.{setupOf}
+use Rattle.bus.specs.declared.state.Bus.{Bus}
 use Rattle.judgement.specs.Refusals.{hasWrongBuffers}
 use Rattle.judgement.specs.declared.event.Event.{Event}
-use Rattle.events.specs.Machine.{Machine, machine}
-use Rattle.events.specs.Step.{refusalIn, after}
-use Rattle.runs.specs.Run.{afterAll, IsRound, GoesOn}
+use Rattle.events.specs.Machine.{Machine}
+use Rattle.runs.specs.Run.{Call, call, refusalOn, busAfter, afterAll, acceptedOf, hasKind, IsRound, GoesOn, afterEvents, callsOf}
 
 -- ---- Sense
 
--- From a bus that setup answered no run meets 02.
+-- A bus that makes sense does so after any run;
+abbrev pub SenseInRuns : Type 0
+SenseInRuns = (bus : Bus) → makesSense bus ≡ true → (calls : List Call) → makesSense (afterAll bus calls) ≡ true
+
+-- so from a bus that setup answered no run meets 02.
 abbrev pub NeverSenseless : Type 0
 NeverSenseless =
-    (fitted : ℕ) (pages memory ports : List ℕ) → length pages ≡ 16 → (events : List Event) (event : Event)
-    → refusalIn (afterAll (machine (setupOf fitted pages .bus) memory ports) events) event ≡ Refusal.senseless → ⊥
+    (fitted : ℕ) (pages : List ℕ) → length pages ≡ 16 → (calls : List Call) (c : Call)
+    → refusalOn (afterAll (setupOf fitted pages .bus) calls) c ≡ Refusal.senseless → ⊥
+
+-- Events that hand on one memory leave the bus that their calls leave.
+abbrev pub OneMemory : Type 0
+OneMemory = (m : Machine) (events : List Event) → afterEvents m events .bus ≡ afterAll (m .bus) (callsOf m events)
 
 -- ---- Demand 3
 
@@ -39,61 +47,66 @@ lookBy card = spoken Kind.look card
 abbrev pub acknowledge : Event
 acknowledge = spoken Kind.acknowledge 0
 
+-- memory and ports have the right lengths
+abbrev pub Right : List ℕ → List ℕ → Type 0
+Right memory ports = hasWrongBuffers memory ports ≡ false
+
 -- a sensible bus in arbitration, with whatever levels
-pub record Arbitrates (m : Machine) : Type 0 where
-  pub sense : makesSense (m .bus) ≡ true
-  pub phase : m .bus .phase ≡ Phase.arbitration
+pub record Arbitrates (bus : Bus) : Type 0 where
+  pub sense : makesSense bus ≡ true
+  pub phase : bus .phase ≡ Phase.arbitration
 
--- the arbitration is still the same, and its lines are settled at this number; with memory and ports of the right lengths, an acknowledge
--- is accepted next, and grants that card
-pub record SettledAt (first m : Machine) (card : ℕ) : Type 0 where
-  pub arbitrates : Arbitrates m
-  pub contenders : m .bus .contenders ≡ first .bus .contenders
-  pub lines : linesOf (m .bus) ≡ card
-  pub settled : isSettled (m .bus) ≡ true
-  pub next : hasWrongBuffers (first .memory) (first .ports) ≡ false
-      → (refusalIn m acknowledge ≡ Refusal.accepted)
-      × ((after m acknowledge .bus .phase ≡ Phase.granted) × (after m acknowledge .bus .granted ≡ card))
+-- the arbitration is still the same, its lines are settled at this number, and an acknowledge with right buffers is accepted next and grants
+-- that card
+pub record SettledAt (first bus : Bus) (card : ℕ) : Type 0 where
+  pub arbitrates : Arbitrates bus
+  pub contenders : bus .contenders ≡ first .contenders
+  pub lines : linesOf bus ≡ card
+  pub settled : isSettled bus ≡ true
+  pub next : (memory ports : List ℕ) → Right memory ports
+      → (refusalOn bus (call acknowledge memory ports) ≡ Refusal.accepted)
+      × ((busAfter bus (call acknowledge memory ports) .phase ≡ Phase.granted) × (busAfter bus (call acknowledge memory ports) .granted ≡ card))
 
--- Four stretches with an accepted look of each contender bring the lines to the highest contender, whatever else happens in them and after
--- them, as long as no acknowledge and no reset is accepted.
+-- Four stretches with an accepted look of each contender bring the lines to the highest contender, whatever other calls there are in them and
+-- after them, as long as no acknowledge and no reset is accepted.
 abbrev pub FourRoundsOfEvents : Type 0
 FourRoundsOfEvents =
-    (m : Machine) → Arbitrates m → (card : ℕ) → Highest (arbitrationOf (m .bus)) card → (r₁ r₂ r₃ r₄ further : List Event)
-    → GoesOn m (r₁ ++ r₂ ++ r₃ ++ r₄ ++ further)
-    → IsRound m r₁ → IsRound (afterAll m r₁) r₂ → IsRound (afterAll m (r₁ ++ r₂)) r₃ → IsRound (afterAll m (r₁ ++ r₂ ++ r₃)) r₄
-    → SettledAt m (afterAll m (r₁ ++ r₂ ++ r₃ ++ r₄ ++ further)) card
+    (bus : Bus) → Arbitrates bus → (card : ℕ) → Highest (arbitrationOf bus) card → (r₁ r₂ r₃ r₄ further : List Call)
+    → GoesOn bus (r₁ ++ r₂ ++ r₃ ++ r₄ ++ further)
+    → IsRound bus r₁ → IsRound (afterAll bus r₁) r₂ → IsRound (afterAll bus (r₁ ++ r₂)) r₃ → IsRound (afterAll bus (r₁ ++ r₂ ++ r₃)) r₄
+    → SettledAt bus (afterAll bus (r₁ ++ r₂ ++ r₃ ++ r₄ ++ further)) card
 
 -- Settled lines stay as they are, and so does the whole bus.
 abbrev pub SettledStays : Type 0
-SettledStays =
-    (m : Machine) → Arbitrates m → isSettled (m .bus) ≡ true → (events : List Event) → GoesOn m events → afterAll m events .bus ≡ m .bus
+SettledStays = (bus : Bus) → Arbitrates bus → isSettled bus ≡ true → (calls : List Call) → GoesOn bus calls → afterAll bus calls ≡ bus
 
--- some contender's look would change what that card drives
-abbrev pub Restless : Machine → Type 0
-Restless m =
+-- some contender's look, with these buffers, would change what that card drives
+abbrev pub Restless : Bus → List ℕ → List ℕ → Type 0
+Restless bus memory ports =
     (card : ℕ)
-    × (Contender (arbitrationOf (m .bus)) card × (getD (after m (lookBy card) .bus .driven) card 0 ≡ getD (m .bus .driven) card 0 → ⊥))
+    × (Contender (arbitrationOf bus) card × (getD (busAfter bus (call (lookBy card) memory ports) .driven) card 0 ≡ getD (bus .driven) card 0 → ⊥))
 
 -- In arbitration an acknowledge with buffers in order is refused exactly if that is so, and then as unsettled.
 abbrev pub AcknowledgeRefused : Type 0
 AcknowledgeRefused =
-    (m : Machine) → Arbitrates m → hasWrongBuffers (m .memory) (m .ports) ≡ false
-    → ((refusalIn m acknowledge ≡ Refusal.accepted → ⊥) ↔ Restless m)
-    × ((refusalIn m acknowledge ≡ Refusal.accepted → ⊥) → refusalIn m acknowledge ≡ Refusal.unsettled)
+    (bus : Bus) → Arbitrates bus → (memory ports : List ℕ) → Right memory ports
+    → ((refusalOn bus (call acknowledge memory ports) ≡ Refusal.accepted → ⊥) ↔ Restless bus memory ports)
+    × ((refusalOn bus (call acknowledge memory ports) ≡ Refusal.accepted → ⊥) → refusalOn bus (call acknowledge memory ports) ≡ Refusal.unsettled)
 
--- the acknowledge in a run that granted this card, to the highest contender there was
-pub record GrantedBy (m : Machine) (events : List Event) (card : ℕ) : Type 0 where
-  pub before : List Event
-  pub event : Event
-  pub later : List Event
-  pub here : events ≡ before ++ event ∷ later
-  pub kind : event .kind ≡ Kind.acknowledge
-  pub accepted : refusalIn (afterAll m before) event ≡ Refusal.accepted
-  pub highest : Highest (arbitrationOf (afterAll m before .bus)) card
+-- the accepted acknowledge in a run that granted this card, the highest contender there was, with no accepted acknowledge after it
+pub record GrantedBy (bus : Bus) (calls : List Call) (card : ℕ) : Type 0 where
+  pub before : List Call
+  pub this : Call
+  pub later : List Call
+  pub here : calls ≡ before ++ this ∷ later
+  pub kind : this .event .kind ≡ Kind.acknowledge
+  pub accepted : refusalOn (afterAll bus before) this ≡ Refusal.accepted
+  pub grants : busAfter (afterAll bus before) this .granted ≡ card
+  pub highest : Highest (arbitrationOf (afterAll bus before)) card
+  pub last : hasKind Kind.acknowledge (acceptedOf (busAfter (afterAll bus before) this) later) ≡ false
 
 -- Whatever card is granted in a run was the highest contender when it was.
 abbrev pub GrantedIsHighest : Type 0
 GrantedIsHighest =
-    (m : Machine) → m .bus .phase < Phase.granted → (events : List Event) → Phase.granted ≤ afterAll m events .bus .phase
-    → GrantedBy m events (afterAll m events .bus .granted)
+    (bus : Bus) → bus .phase < Phase.granted → (calls : List Call) → Phase.granted ≤ afterAll bus calls .phase
+    → GrantedBy bus calls (afterAll bus calls .granted)

@@ -1,4 +1,5 @@
--- A run: a list of events, each of which finds what its predecessor left of bus, memory and ports (01, "State and phases").
+-- A run: calls one after another, each of which is given the bus that its predecessor returned (01, "State and phases"). Memory and ports are
+-- lent to each call for itself, so a run may hold calls with buffers of any lengths and contents.
 use Prim.Native.Nat.{ℕ}
 use mathlib.Core.Path.{_≡_}
 use mathlib.Core.Bool.{Bool, true, false, cond, _||_}
@@ -8,22 +9,42 @@ use Rattle.lines.specs.Arbitration.{isRound}
 use Rattle.phases.specs.Kind as Kind
 use Rattle.bus.specs.Refusal as Refusal
 use Rattle.bus.specs.State.{arbitrationOf}
+use Rattle.bus.specs.declared.state.Bus.{Bus}
 use Rattle.judgement.specs.declared.event.Event.{Event}
-use Rattle.events.specs.Machine.{Machine}
+use Rattle.events.specs.Machine.{Machine, machine}
 use Rattle.events.specs.Step.{refusalIn, after}
 
-unfoldable pub afterAll : Machine → List Event → Machine
-afterAll m [] = m
-afterAll m (event ∷ events) = afterAll (after m event) events
+-- an event, with the memory and the ports that are lent to it
+pub record Call : Type 0 where
+  pub event : Event
+  pub memory : List ℕ
+  pub ports : List ℕ
 
--- the event is accepted
-abbrev pub isAccepted : Machine → Event → Bool
-isAccepted m event = eqb (refusalIn m event) Refusal.accepted
+abbrev pub call : Event → List ℕ → List ℕ → Call
+call event memory ports = record { event = event; memory = memory; ports = ports }
 
--- those of a run's events that are accepted
-unfoldable pub acceptedOf : Machine → List Event → List Event
-acceptedOf m [] = []
-acceptedOf m (event ∷ events) = cond (isAccepted m event) (event ∷ acceptedOf (after m event) events) (acceptedOf (after m event) events)
+abbrev pub machineOf : Bus → Call → Machine
+machineOf bus c = machine bus (c .memory) (c .ports)
+
+abbrev pub refusalOn : Bus → Call → ℕ
+refusalOn bus c = refusalIn (machineOf bus c) (c .event)
+
+abbrev pub busAfter : Bus → Call → Bus
+busAfter bus c = after (machineOf bus c) (c .event) .bus
+
+unfoldable pub afterAll : Bus → List Call → Bus
+afterAll bus [] = bus
+afterAll bus (c ∷ calls) = afterAll (busAfter bus c) calls
+
+-- ---- What is accepted in it
+
+abbrev pub isAccepted : Bus → Call → Bool
+isAccepted bus c = eqb (refusalOn bus c) Refusal.accepted
+
+-- the events that are accepted
+unfoldable pub acceptedOf : Bus → List Call → List Event
+acceptedOf bus [] = []
+acceptedOf bus (c ∷ calls) = cond (isAccepted bus c) (c .event ∷ acceptedOf (busAfter bus c) calls) (acceptedOf (busAfter bus c) calls)
 
 -- some event is of this kind
 unfoldable pub hasKind : ℕ → List Event → Bool
@@ -35,15 +56,26 @@ unfoldable pub speakersOf : ℕ → List Event → List ℕ
 speakersOf kind [] = []
 speakersOf kind (event ∷ events) = cond (eqb (event .kind) kind) (event .speaker ∷ speakersOf kind events) (speakersOf kind events)
 
--- the accepted looks of a run
-abbrev pub looksIn : Machine → List Event → List ℕ
-looksIn m events = speakersOf Kind.look (acceptedOf m events)
+-- the accepted looks
+abbrev pub looksIn : Bus → List Call → List ℕ
+looksIn bus calls = speakersOf Kind.look (acceptedOf bus calls)
 
--- each contender has at least one accepted look in this stretch of a run; other events may stand anywhere in it
-abbrev pub IsRound : Machine → List Event → Type 0
-IsRound m events = isRound (arbitrationOf (m .bus)) (looksIn m events) ≡ true
+-- each contender has at least one accepted look in this stretch of a run; other calls may stand anywhere in it
+abbrev pub IsRound : Bus → List Call → Type 0
+IsRound bus calls = isRound (arbitrationOf bus) (looksIn bus calls) ≡ true
 
 -- no accepted acknowledge and no accepted reset: the arbitration goes on
-pub record GoesOn (m : Machine) (events : List Event) : Type 0 where
-  pub noGrant : hasKind Kind.acknowledge (acceptedOf m events) ≡ false
-  pub noReset : hasKind Kind.reset (acceptedOf m events) ≡ false
+pub record GoesOn (bus : Bus) (calls : List Call) : Type 0 where
+  pub noGrant : hasKind Kind.acknowledge (acceptedOf bus calls) ≡ false
+  pub noReset : hasKind Kind.reset (acceptedOf bus calls) ≡ false
+
+-- ---- Events that hand on one memory and its ports, as the program's do
+
+unfoldable pub afterEvents : Machine → List Event → Machine
+afterEvents m [] = m
+afterEvents m (event ∷ events) = afterEvents (after m event) events
+
+-- the calls that they are
+unfoldable pub callsOf : Machine → List Event → List Call
+callsOf m [] = []
+callsOf m (event ∷ events) = call event (m .memory) (m .ports) ∷ callsOf (after m event) events
