@@ -17,22 +17,26 @@ pub fields : Fields
 unfolding rowIn firstOf soundRefusal allBelow someCard isWithin
 fields = record {
   kindZero = refl;
-  kindTen = refl;
+  kindPastReset = refl;
   speakerAbove = refl;
-  strangeSpeaker = refl;
-  strangeAddress = refl;
-  strangeDatum = refl;
+  straySpeaker = refl;
+  strayAddress = refl;
+  strayDatum = refl;
   wideByte = refl;
   wideOutput = refl;
   byte = refl;
   output = refl;
   word = refl;
+  strayLookAddress = refl;
+  strayAcknowledgeSpeaker = refl;
+  strayResetDatum = refl;
+  strayWordReadDatum = refl;
   both = refl;
 }
 
 pub cards : Cards
 unfolding rowIn firstOf soundRefusal allBelow someCard isWithin
-cards = record { request = refl; nobody = refl; unfitted = refl; look = refl; cycle = refl; master = refl; masterLooks = refl; masterLooksThen = refl }
+cards = record { request = refl; nobody = refl; unfitted = refl; look = refl; cycle = refl; giveBack = refl; lastCard = refl; master = refl; masterLooks = refl; masterLooksThen = refl }
 
 pub turns : Turns
 unfolding rowIn firstOf soundRefusal allBelow orBelow look everyContender shown looked settled someCard isWithin
@@ -70,6 +74,8 @@ addresses = record {
   lastWord = refl;
   absent = refl;
   absentWord = refl;
+  absentFetch = refl;
+  absentWrite = refl;
   beyond = refl;
   lastPort = refl;
   portBeyond = refl;

@@ -1,10 +1,11 @@
 -- What an accepted event has passed, and that one which passes everything is accepted.
 use Prim.Native.Nat.{ℕ}
 use mathlib.Core.Path.{_≡_, refl, sym, _∙_}
-use mathlib.Core.Bool.{Bool, true, false}
+use mathlib.Core.Bool.{Bool, true, false, and-eq-true-iff}
 use mathlib.Core.List.{List}
 use lib.Dec.{eqb}
-use borrow.Author.Tests.{eqb-true, not-false}
+use lib.ListN.{length}
+use borrow.Author.Tests.{eqb-true, eq-eqb, not-false}
 use Rattle.words.specs.First.{reason, firstOf}
 use Rattle.words.proofs.FirstLaws.{first-none}
 use Rattle.bus.specs.Settle.{isSenseless}
@@ -21,7 +22,7 @@ use Rattle.judgement.specs.Refusals.{
   isAbsent,
 }
 use Rattle.judgement.specs.Judge.{soundRefusal, refusalOf, numberOf, verdictOn, soundVerdict}
-use Rattle.judgement.specs.Promises.{VerdictNumber, VerdictStep}
+use Rattle.judgement.specs.Promises.{VerdictNumber, VerdictStep, LengthsAsked}
 use Rattle.judgement.specs.declared.event.Event.{Event}
 use Rattle.judgement.proofs.TurnLaws.{steps-of-table}
 
@@ -92,3 +93,13 @@ verdict-number bus event = go (eqb (soundRefusal bus event) 0) refl
 pub verdict-step : VerdictStep
 unfolding soundVerdict
 verdict-step bus event e = rw e
+
+-- ---- The lengths
+
+pub lengths-asked : LengthsAsked
+lengths-asked memory ports = (
+  λ right.
+      let both = and-eq-true-iff (eqb (length memory) 0x10000) (eqb (length ports) 0x100) .0 (not-false _ right) in
+      (eqb-true (length memory) 0x10000 (both .0), eqb-true (length ports) 0x100 (both .1)),
+  λ sizes. rw (eq-eqb (length memory) 0x10000 (sizes .0), eq-eqb (length ports) 0x100 (sizes .1)),
+)

@@ -12,7 +12,7 @@ use Rattle.judgement.specs.Judge.{soundRefusal}
 
 -- ---- Columns
 
--- of the numbers 00 to 10, those that pass
+-- of the numbers below a bound, those that pass, the highest first
 unfoldable pub kindsBelow : (ℕ → Bool) → ℕ → List ℕ
 kindsBelow test zero = []
 kindsBelow test (suc k) = cond (test k) (k ∷ kindsBelow test k) (kindsBelow test k)
@@ -52,8 +52,8 @@ abbrev pub zeroAlone : Bus
 zeroAlone = stateOf 0x0001 codes Phase.arbitration 0x0001 silent nobody
 
 -- card 3 is granted, in this phase
-abbrev pub hold : ℕ → Bus
-hold phase = stateOf 0x000A codes phase 0 silent 3
+abbrev pub threeGranted : ℕ → Bus
+threeGranted phase = stateOf 0x000A codes phase 0 silent 3
 
 -- ---- Events and their refusals
 
@@ -63,16 +63,20 @@ judged bus kind speaker address datum = soundRefusal bus (record { kind = kind; 
 
 pub record Fields : Type 0 where
   pub kindZero : judged free 0x00 0 0 0 ≡ 0x03
-  pub kindTen : judged free 0x10 0 0 0 ≡ 0x03
+  pub kindPastReset : judged free 0x10 0 0 0 ≡ 0x03
   pub speakerAbove : judged free 0x06 0x11 0 0 ≡ 0x03
-  pub strangeSpeaker : judged free 0x01 0x10 0 0x0002 ≡ 0x03
-  pub strangeAddress : judged free 0x01 0 1 0x0002 ≡ 0x03
-  pub strangeDatum : judged free 0x06 0x10 0 1 ≡ 0x03
+  pub straySpeaker : judged free 0x01 0x10 0 0x0002 ≡ 0x03
+  pub strayAddress : judged free 0x01 0 1 0x0002 ≡ 0x03
+  pub strayDatum : judged free 0x06 0x10 0 1 ≡ 0x03
   pub wideByte : judged free 0x08 0x10 0 0x0100 ≡ 0x03
   pub wideOutput : judged free 0x0C 0x10 0 0x0100 ≡ 0x03
   pub byte : judged free 0x08 0x10 0 0x00FF ≡ 0x00
   pub output : judged free 0x0C 0x10 0 0x00FF ≡ 0x00
   pub word : judged free 0x0A 0x10 0 0xFFFF ≡ 0x00
+  pub strayLookAddress : judged settled 0x02 1 1 0 ≡ 0x03
+  pub strayAcknowledgeSpeaker : judged settled 0x03 1 0 0 ≡ 0x03
+  pub strayResetDatum : judged free 0x0F 0 0 1 ≡ 0x03
+  pub strayWordReadDatum : judged free 0x09 0x10 0 1 ≡ 0x03
   -- malformed before unfitted
   pub both : judged free 0x06 2 0 1 ≡ 0x03
 
@@ -82,7 +86,9 @@ pub record Cards : Type 0 where
   pub unfitted : judged free 0x01 0 0 0x0006 ≡ 0x05
   -- unfitted before the phase, whatever the kind
   pub look : judged free 0x02 2 0 0 ≡ 0x05
-  pub cycle : judged (hold Phase.granted) 0x06 2 0 0 ≡ 0x05
+  pub cycle : judged (threeGranted Phase.granted) 0x06 2 0 0 ≡ 0x05
+  pub giveBack : judged (threeGranted Phase.transferTwo) 0x0E 2 0 0 ≡ 0x05
+  pub lastCard : judged free 0x06 15 0 0 ≡ 0x05
   -- the permanent master is no card
   pub master : judged free 0x06 0x10 0 0 ≡ 0x00
   pub masterLooks : judged free 0x02 0x10 0 0 ≡ 0x06
@@ -92,27 +98,27 @@ pub record Turns : Type 0 where
   pub lookWhenFree : judged free 0x02 1 0 0 ≡ 0x06
   pub look : judged settled 0x02 1 0 0 ≡ 0x00
   pub secondRequest : judged settled 0x01 0 0 0x0002 ≡ 0x06
-  pub requestInTransferTwo : judged (hold Phase.transferTwo) 0x01 0 0 0x0002 ≡ 0x06
+  pub requestInTransferTwo : judged (threeGranted Phase.transferTwo) 0x01 0 0 0x0002 ≡ 0x06
   pub acknowledge : judged settled 0x03 0 0 0 ≡ 0x00
   -- the lines name card 3, and still
   pub unsettledThree : judged unsettled 0x03 0 0 0 ≡ 0x08
   pub zeroContends : judged zeroAlone 0x03 0 0 0 ≡ 0x00
-  pub begin : judged (hold Phase.granted) 0x04 3 0 0 ≡ 0x00
-  pub beginOther : judged (hold Phase.granted) 0x04 1 0 0 ≡ 0x07
-  pub takeEarly : judged (hold Phase.granted) 0x05 3 0 0 ≡ 0x06
-  pub takeThen : judged (hold Phase.transferOne) 0x05 3 0 0 ≡ 0x00
-  pub beginTwo : judged (hold Phase.owned) 0x0D 3 0 0 ≡ 0x00
-  pub giveBack : judged (hold Phase.transferTwo) 0x0E 3 0 0 ≡ 0x00
-  pub reset : judged (hold Phase.transferTwo) 0x0F 0 0 0 ≡ 0x00
+  pub begin : judged (threeGranted Phase.granted) 0x04 3 0 0 ≡ 0x00
+  pub beginOther : judged (threeGranted Phase.granted) 0x04 1 0 0 ≡ 0x07
+  pub takeEarly : judged (threeGranted Phase.granted) 0x05 3 0 0 ≡ 0x06
+  pub takeThen : judged (threeGranted Phase.transferOne) 0x05 3 0 0 ≡ 0x00
+  pub beginTwo : judged (threeGranted Phase.owned) 0x0D 3 0 0 ≡ 0x00
+  pub giveBack : judged (threeGranted Phase.transferTwo) 0x0E 3 0 0 ≡ 0x00
+  pub reset : judged (threeGranted Phase.transferTwo) 0x0F 0 0 0 ≡ 0x00
   -- whose cycles they are
   pub cardWhenFree : judged free 0x06 1 0 0 ≡ 0x07
   pub masterInArbitration : judged settled 0x06 0x10 0 0 ≡ 0x00
-  pub cardWhenGranted : judged (hold Phase.granted) 0x06 3 0 0 ≡ 0x06
-  pub cardOwns : judged (hold Phase.owned) 0x06 3 0 0 ≡ 0x00
-  pub otherCard : judged (hold Phase.owned) 0x06 1 0 0 ≡ 0x07
-  pub masterWhenOwned : judged (hold Phase.owned) 0x06 0x10 0 0 ≡ 0x07
+  pub cardWhenGranted : judged (threeGranted Phase.granted) 0x06 3 0 0 ≡ 0x06
+  pub cardOwns : judged (threeGranted Phase.owned) 0x06 3 0 0 ≡ 0x00
+  pub otherCard : judged (threeGranted Phase.owned) 0x06 1 0 0 ≡ 0x07
+  pub masterWhenOwned : judged (threeGranted Phase.owned) 0x06 0x10 0 0 ≡ 0x07
   -- the phase before the turn
-  pub phaseFirst : judged (hold Phase.transferTwo) 0x06 0x10 0 0 ≡ 0x06
+  pub phaseFirst : judged (threeGranted Phase.transferTwo) 0x06 0x10 0 0 ≡ 0x06
 
 pub record Addresses : Type 0 where
   pub oddWord : judged free 0x09 0x10 0x001001 0 ≡ 0x09
@@ -123,6 +129,8 @@ pub record Addresses : Type 0 where
   pub lastWord : judged free 0x0A 0x10 0x001FFE 0x1234 ≡ 0x00
   pub absent : judged free 0x06 0x10 0x002000 0 ≡ 0x0A
   pub absentWord : judged free 0x09 0x10 0x00FFFE 0 ≡ 0x0A
+  pub absentFetch : judged free 0x07 0x10 0x002000 0 ≡ 0x0A
+  pub absentWrite : judged free 0x0A 0x10 0x002000 0x1234 ≡ 0x0A
   pub beyond : judged free 0x08 0x10 0x010000 0x0012 ≡ 0x0A
   pub lastPort : judged free 0x0B 0x10 0x0000FF 0 ≡ 0x00
   pub portBeyond : judged free 0x0B 0x10 0x000100 0 ≡ 0x0A

@@ -1,4 +1,4 @@
--- The judgement of an event: the first refusal that applies, by number, or the step of its kind (01, "Refusals and their order").
+-- The judgement of an event: the lowest-numbered refusal that applies, or the step of its kind (01, "Refusals and their order").
 use Prim.Native.Nat.{ℕ}
 use mathlib.Core.Bool.{cond}
 use mathlib.Core.List.{List, [], _∷_}
@@ -34,7 +34,7 @@ use Rattle.judgement.specs.declared.turns.Verdict.the-variants.{
   Reset,
 }
 
--- what goes by kind and phase
+-- 06 to 0A
 abbrev pub turnReasons : Bus → Event → List Reason
 turnReasons bus event =
     reason Refusal.wrongPhase (isWrongPhase bus event)

@@ -1,10 +1,15 @@
 -- What is promised of the judgement. The proof of each stands in proofs/ under its name in lower case, with hyphens.
 use Prim.Native.Nat.{ℕ, _≤_}
 use mathlib.Core.Path.{_≡_}
+use mathlib.Core.Logic.{_↔_}
+use mathlib.Core.Bool.{false}
+use mathlib.Core.List.{List}
+use lib.ListN.{length}
 use Rattle.phases.specs.Kind as Kind
 use Rattle.bus.specs.Refusal as Refusal
 use Rattle.bus.specs.declared.state.Bus.{Bus}
 use Rattle.judgement.specs.Table.{rowOf}
+use Rattle.judgement.specs.Refusals.{hasWrongBuffers}
 use Rattle.judgement.specs.Judge.{soundRefusal, numberOf, soundVerdict}
 use Rattle.judgement.specs.declared.event.Event.{Event}
 
@@ -19,3 +24,7 @@ VerdictNumber = (bus : Bus) (event : Event) → numberOf (soundVerdict bus event
 -- and the step is the kind's.
 abbrev pub VerdictStep : Type 0
 VerdictStep = (bus : Bus) (event : Event) → soundRefusal bus event ≡ Refusal.accepted → soundVerdict bus event ≡ rowOf (event .kind) .step
+
+-- The buffers are right exactly with these lengths.
+abbrev pub LengthsAsked : Type 0
+LengthsAsked = (memory ports : List ℕ) → (hasWrongBuffers memory ports ≡ false) ↔ ((length memory ≡ 65536) × (length ports ≡ 256))

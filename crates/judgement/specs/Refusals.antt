@@ -11,11 +11,11 @@ use Rattle.bus.specs.declared.state.Bus.{Bus}
 use Rattle.judgement.specs.Table.{permanentMaster, hasTurn, rowOf, listsSpeaker, listsAddress, listsDatum}
 use Rattle.judgement.specs.declared.event.Event.{Event}
 
--- 01: a length other than 65,536 of the memory, or other than 256 of the ports
+-- 01: a buffer has another length than its own, 10000h for memory and 100h for ports
 abbrev pub hasWrongBuffers : List ℕ → List ℕ → Bool
 hasWrongBuffers memory ports = not (eqb (length memory) 0x10000 && eqb (length ports) 0x100)
 
--- 02 is bus Settle.isSenseless.
+-- 02: a senseless state; the test is bus Settle.isSenseless, since settle asks it too.
 
 -- a field that the kind doesn't list isn't zero
 abbrev pub hasStrayField : Event → Bool
@@ -46,7 +46,7 @@ namesUnfitted fitted event =
     listsSpeaker (event .kind) && leb (event .speaker) 15 && not (cardIn fitted (event .speaker))
     || eqb (event .kind) Kind.request && not (isWithin (event .datum) fitted)
 
--- 06: the kind is out of its phase
+-- 06: in this phase there is no such event
 abbrev pub isWrongPhase : Bus → Event → Bool
 isWrongPhase bus event = not (rowOf (event .kind) .allows (bus .phase))
 
@@ -54,11 +54,11 @@ isWrongPhase bus event = not (rowOf (event .kind) .allows (bus .phase))
 abbrev pub isNotItsTurn : Bus → Event → Bool
 isNotItsTurn bus event = not (hasTurn (rowOf (event .kind) .speaker) bus (event .speaker))
 
--- 08: an acknowledge, and some contender's look would change what it drives
+-- 08: an acknowledge while some contender would still drive something else after a look
 abbrev pub isUnsettled : Bus → Event → Bool
 isUnsettled bus event = eqb (event .kind) Kind.acknowledge && not (isSettled bus)
 
--- 09: a word that begins at an odd byte
+-- 09: a word that doesn't begin at an even address
 abbrev pub isOddWord : Event → Bool
 isOddWord event = Kind.isWord (event .kind) && not (eqb (event .address % 2) 0)
 

@@ -37,7 +37,7 @@ pub data Speaker : Type 0 where
   -- whoever has the phase's cycles
   master : Speaker
 
--- whose cycles the phase has: the granted card's where it owns the bus, and else the permanent master's
+-- who has the cycles, in a phase that allows any: the granted card where it owns the bus, and else the permanent master
 abbrev pub masterOf : Bus → ℕ
 masterOf bus = cond (eqb (bus .phase) Phase.owned) (bus .granted) permanentMaster
 
@@ -106,7 +106,7 @@ table =
     ∷ row Kind.reset unlisted blank blank anyPhase Reset
     ∷ []
 
--- a kind that isn't in the table lists nothing, and no phase allows it
+-- a kind that isn't in the table lists nothing, and no phase allows it, so its step is never taken
 abbrev pub noRow : Row
 noRow = row 0 unlisted blank blank noPhase (Refused Refusal.malformed)
 
