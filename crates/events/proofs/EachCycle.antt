@@ -32,7 +32,7 @@ use Rattle.events.specs.Promises.{
   Accepted,
   Moves,
   onPage,
-  asked,
+  wordAdds,
   ByteReadDoes,
   OpcodeFetchDoes,
   ByteWriteDoes,
@@ -131,7 +131,7 @@ output-does m event ok =
 pub word-read-does : WordReadDoes
 unfolding rowIn isAmong beside wordSignals statusOf
 word-read-does m event ok sixteen page =
-    subst (λ (s : Bool). Moves m event (m .memory) (m .ports) (asked s) 1 (onPage s datum)) page
+    subst (λ (s : Bool). Moves m event (m .memory) (m .ports) (wordAdds s) 1 (onPage s datum)) page
     (does m event (ok .1) Kind.wordRead (ok .0) (m .bus) refl (m .memory) (m .ports) (rw (ok .0)) (rw (ok .0)) _
     (rw (ok .0) (word-moves _ (m .memory) (event .address) (a-word Kind.wordRead m event ok refl refl) .0)))
   where
@@ -148,7 +148,7 @@ word-written false memory a datum here = rw here
 pub word-write-does : WordWriteDoes
 unfolding rowIn isAmong beside wordSignals statusOf
 word-write-does m event ok sixteen page =
-    subst (λ (s : Bool). Moves m event left (m .ports) (asked s) 0x10 (onPage s (event .datum))) page
+    subst (λ (s : Bool). Moves m event left (m .ports) (wordAdds s) 0x10 (onPage s (event .datum))) page
     (does m event (ok .1) Kind.wordWrite (ok .0) (m .bus) refl left (m .ports)
     (rw (ok .0) (word-written _ (m .memory) (event .address) (event .datum) here))
     (rw (ok .0))

@@ -50,7 +50,7 @@ NoCycle k =
 steps : (k : ℕ) (m : Machine) (event : Event) → Accepted k m event → NoCycle k → (bus : Bus) → stepBy (rowOf k .step) (m .bus) event ≡ bus
     → (signals : ℕ) → ((sixteen : Bool) → signalsWith (bus .phase) k sixteen ≡ signals) → statusOf k ≡ 0 → Steps m event bus signals (driversIn (bus .phase))
 unfolding NoCycle
-steps k m event ok (n6, (n7, (n8, (n9, (nA, (nB, nC)))))) bus step signals shown quiet = record { does = as-stated; driven = ap (λ (x : Machine). driversIn (x .bus .phase)) (as-stated .leaves) }
+steps k m event ok (n6, (n7, (n8, (n9, (nA, (nB, nC)))))) bus step signals shown quiet = record { does = as-stated; drives = ap (λ (x : Machine). driversIn (x .bus .phase)) (as-stated .leaves) }
   where
     sixteen : Bool
     sixteen = isSixteen (m .bus .pages) (event .address)

@@ -15,18 +15,20 @@ use Rattle.phases.specs.Status.{sMEMR, sM1, sINP, sOUT, sWO}
 use Rattle.memory.specs.declared.Moved.{Moved}
 use Rattle.memory.specs.Halves.{evenHalf, oddHalf, wordOf}
 use Rattle.memory.specs.Cycles.{nothing, inOneCycle}
+use Rattle.cards.specs.Cards.{someCard, isWithin}
 use Rattle.bus.specs.Refusal as Refusal
 use Rattle.bus.specs.Sense.{makesSense}
 use Rattle.bus.specs.State.{nobody, silent, changed, withPages, linesOf}
 use Rattle.bus.specs.declared.state.Bus.{Bus}
-use Rattle.judgement.specs.Table.{permanentMaster}
+use Rattle.judgement.specs.Table.{permanentMaster, listsSpeaker, listsAddress, listsDatum}
 use Rattle.judgement.specs.Refusals.{hasWrongBuffers}
 use Rattle.judgement.specs.Judge.{reasonsAgainst}
 use Rattle.judgement.specs.declared.event.Event.{Event}
 use Rattle.events.specs.Machine.{Machine, machine}
 use Rattle.events.specs.Cycles.{isSixteen}
-use Rattle.events.specs.Answers.{answerWith, bare}
+use Rattle.events.specs.Answers.{answerWith}
 use Rattle.events.specs.Step.{refusalIn, after, answerTo, soundAfter, soundAnswer}
+use Rattle.events.specs.declared.answers.Answer.{Answer}
 
 -- ---- Refused
 
@@ -34,14 +36,18 @@ use Rattle.events.specs.Step.{refusalIn, after, answerTo, soundAfter, so
 abbrev pub RefusedKeeps : Type 0
 RefusedKeeps = (m : Machine) (event : Event) → (refusalIn m event ≡ Refusal.accepted → ⊥) → after m event ≡ m
 
+-- a number, and zeros
+abbrev pub onlyNumber : ℕ → Answer
+onlyNumber n = record { refusal = n; phase = 0; granted = 0; lines = 0; signals = 0; status = 0; cycles = 0; datum = 0 }
+
 -- After 01 and 02 everything else in the answer is 0; after a higher number it shows the bus, without status, cycles and datum.
 abbrev pub RefusedAnswers : Type 0
 RefusedAnswers =
     (m : Machine) (event : Event) (n : ℕ) → refusalIn m event ≡ n
-    → ((n ≡ Refusal.wrongBuffers) ⊎ (n ≡ Refusal.senseless) → answerTo m event ≡ bare n)
+    → ((n ≡ Refusal.wrongBuffers) ⊎ (n ≡ Refusal.senseless) → answerTo m event ≡ onlyNumber n)
     × (Refusal.malformed ≤ n → answerTo m event ≡ answerWith n (m .bus) (signalsIn (m .bus .phase)) 0 nothing)
 
--- An event is refused with n exactly if n applies and no lower number does,
+-- The number answered is n exactly where n is among the reasons and every smaller number is not,
 abbrev pub RefusedByNumber : Type 0
 RefusedByNumber =
     (m : Machine) (event : Event) (n : ℕ) → 0 < n
@@ -49,11 +55,23 @@ RefusedByNumber =
     ↔ ((appliesAs n (reasonsAgainst (m .memory) (m .ports) (m .bus) event) ≡ true)
     × ((k : ℕ) → k < n → appliesAs k (reasonsAgainst (m .memory) (m .ports) (m .bus) event) ≡ false))
 
--- and accepted exactly if none applies.
+-- and 0 exactly where there is no reason at all.
 abbrev pub AcceptedByNone : Type 0
 AcceptedByNone =
     (m : Machine) (event : Event)
     → (refusalIn m event ≡ Refusal.accepted) ↔ ((n : ℕ) → appliesAs n (reasonsAgainst (m .memory) (m .ports) (m .bus) event) ≡ false)
+
+-- what an accepted event has in its fields: no more than its kind lists, a speaker that there is, and a byte where a byte goes
+pub record WellFormed (event : Event) : Type 0 where
+  pub kind : (Kind.request ≤ event .kind) × (event .kind ≤ Kind.reset)
+  pub speaker : event .speaker ≤ permanentMaster
+  pub noSpeaker : listsSpeaker (event .kind) ≡ false → event .speaker ≡ 0
+  pub noAddress : listsAddress (event .kind) ≡ false → event .address ≡ 0
+  pub noDatum : listsDatum (event .kind) ≡ false → event .datum ≡ 0
+  pub byte : (event .kind ≡ Kind.byteWrite) ⊎ (event .kind ≡ Kind.output) → event .datum ≤ 0xFF
+
+abbrev pub AcceptedIsWellFormed : Type 0
+AcceptedIsWellFormed = (m : Machine) (event : Event) → refusalIn m event ≡ Refusal.accepted → WellFormed event
 
 -- ---- What stays
 
@@ -102,7 +120,7 @@ pub record Does (m : Machine) (event : Event) (left : Machine) (signals status :
 -- A step that is no cycle leaves this bus and every byte, and its drivers are these.
 pub record Steps (m : Machine) (event : Event) (bus : Bus) (signals : ℕ) (drivers : List ℕ) : Type 0 where
   pub does : Does m event (machine bus (m .memory) (m .ports)) signals 0 nothing
-  pub driven : driversIn (after m event .bus .phase) ≡ drivers
+  pub drives : driversIn (after m event .bus .phase) ≡ drivers
 
 -- the drivers of address, status, data-out and control
 abbrev pub allPermanent : List ℕ
@@ -139,7 +157,7 @@ AcknowledgeDoes =
     (m : Machine) (event : Event) → Accepted Kind.acknowledge m event
     → Steps m event (changed (m .bus) Phase.granted 0 silent (linesOf (m .bus))) (HOLD + pHLDA) allPermanent
 
--- the granted card leads to another phase, and nothing else of the bus changes
+-- the bus goes to this phase, and nothing else of it changes
 abbrev pub LeadsTo : ℕ → Machine → Event → ℕ → List ℕ → Type 0
 LeadsTo phase m event signals drivers =
     Steps m event (changed (m .bus) phase (m .bus .contenders) (m .bus .driven) (m .bus .granted)) signals drivers
@@ -167,7 +185,7 @@ ResetDoes =
 
 -- ---- Cycles
 
--- A cycle leaves the bus, this memory and these ports; the signals are its phase's, and here some of a word's.
+-- A cycle leaves the bus, this memory and these ports; the signals are its phase's, with a word's added.
 abbrev pub Moves : Machine → Event → List ℕ → List ℕ → ℕ → ℕ → Moved → Type 0
 Moves m event memory ports word status moved =
     Does m event (machine (m .bus) memory ports) (signalsIn (m .bus .phase) + word) status moved
@@ -201,13 +219,13 @@ OutputDoes =
 abbrev pub onPage : Bool → ℕ → Moved
 onPage sixteen datum = record { datum = datum; cycles = cond sixteen 1 2 }
 
-abbrev pub asked : Bool → ℕ
-asked sixteen = sXTRQ + cond sixteen SIXTN 0
+abbrev pub wordAdds : Bool → ℕ
+wordAdds sixteen = sXTRQ + cond sixteen SIXTN 0
 
 abbrev pub WordReadDoes : Type 0
 WordReadDoes =
     (m : Machine) (event : Event) → Accepted Kind.wordRead m event → (sixteen : Bool) → isSixteen (m .bus .pages) (event .address) ≡ sixteen
-    → Moves m event (m .memory) (m .ports) (asked sixteen) sMEMR
+    → Moves m event (m .memory) (m .ports) (wordAdds sixteen) sMEMR
     (onPage sixteen (wordOf (getD (m .memory) (event .address) 0) (getD (m .memory) (event .address + 1) 0)))
 
 abbrev pub WordWriteDoes : Type 0
@@ -216,7 +234,7 @@ WordWriteDoes =
     → Moves m event
     (set (set (m .memory) (event .address) (evenHalf (event .datum))) (event .address + 1) (oddHalf (event .datum)))
     (m .ports)
-    (asked sixteen)
+    (wordAdds sixteen)
     sWO
     (onPage sixteen (event .datum))
 
@@ -247,14 +265,15 @@ SameOverEitherPage =
 
 -- ---- HOLD is not the whole of it
 
--- In transfer two HOLD is false, and a request is refused, whatever cards it names and whatever else the state is;
+-- Transfer two has HOLD false, and still takes no request, whatever cards it is for and whatever else the state is;
 abbrev pub RequestInTransferTwo : Type 0
 RequestInTransferTwo =
     (m : Machine) (event : Event) → m .bus .phase ≡ Phase.transferTwo → event .kind ≡ Kind.request
     → (isOn HOLD (signalsIn (m .bus .phase)) ≡ false) × (refusalIn m event ≡ Refusal.accepted → ⊥)
 
--- with everything else in order, because of the phase.
+-- where everything else is in order, the reason is the phase.
 abbrev pub RequestTooEarly : Type 0
 RequestTooEarly =
-    (m : Machine) (event : Event) → m .bus .phase ≡ Phase.transferTwo → event .kind ≡ Kind.request
-    → appliesAs Refusal.wrongPhase (reasonsAgainst (m .memory) (m .ports) (m .bus) event) ≡ true
+    (m : Machine) (cards : ℕ) → m .bus .phase ≡ Phase.transferTwo → hasWrongBuffers (m .memory) (m .ports) ≡ false → makesSense (m .bus) ≡ true
+    → someCard cards ≡ true → isWithin cards (m .bus .fitted) ≡ true
+    → refusalIn m (record { kind = Kind.request; speaker = 0; address = 0; datum = cards }) ≡ Refusal.wrongPhase
