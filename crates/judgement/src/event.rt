@@ -7,7 +7,7 @@ pub struct Event {
     pub kind: u8,
     // A card, or the permanent master.
     pub speaker: u8,
-    // 24 bits; whatever is beyond the memory is refused as such.
+    // 24 bits; whatever is beyond the memory is refused with 0A.
     pub address: u32,
     pub datum: u16,
 }

@@ -60,7 +60,7 @@ fn answered(bus: Bus, frame: u64, memory: &mut [u8], ports: &mut [u8]) -> Bus {
     stepped.bus
 }
 
-// One after another.
+// The frames in turn; the bus after the last.
 fn run(start: Bus, frames: &[u64], memory: &mut [u8], ports: &mut [u8]) -> Bus {
     let mut bus = start;
     let mut i: usize = 0;
@@ -92,6 +92,9 @@ fn main() {
     misfit(full.bus, &mut memory, &mut ports, &mut short, &mut few);
     senseless(full.bus, &mut memory, &mut ports, &mut short);
     unchanged(full.bus, &mut memory, &mut ports);
+    put(short[4]);
+    put(few[4]);
+    title(b" in the short buffers");
 }
 
 // 01's printed run, after its setup line.
@@ -260,7 +263,7 @@ fn senseless(full: Bus, memory: &mut [u8], ports: &mut [u8], short: &mut [u8]) -
     run(seventh, &WRITE, memory, ports)
 }
 
-// What was there before.
+// The refused writes left card 10's byte.
 fn unchanged(full: Bus, memory: &mut [u8], ports: &mut [u8]) -> Bus {
     title(b"the byte of card 10 is still there");
     let read = [0x06100000040000];

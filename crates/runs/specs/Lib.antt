@@ -1,4 +1,4 @@
--- Read in this order: runs; what is promised of them; runs of single events, the marked table among them.
+-- Read in this order: runs; what is promised of them; single runs, the marked table among them.
 pub mod Run
 pub mod Promises
 pub mod Examples

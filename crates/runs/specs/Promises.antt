@@ -80,7 +80,7 @@ FourRoundsOfEvents =
 abbrev pub SettledStays : Type 0
 SettledStays = (bus : Bus) → Arbitrates bus → isSettled bus ≡ true → (calls : List Call) → GoesOn bus calls → afterAll bus calls ≡ bus
 
--- some contender's look, with these buffers, would change what that card drives
+-- there is a contender that would drive something else after its look, with these buffers
 abbrev pub Restless : Bus → List ℕ → List ℕ → Type 0
 Restless bus memory ports =
     (card : ℕ)
@@ -105,7 +105,7 @@ pub record GrantedBy (bus : Bus) (calls : List Call) (card : ℕ) : Type 0 where
   pub highest : Highest (arbitrationOf (afterAll bus before)) card
   pub last : hasKind Kind.acknowledge (acceptedOf (busAfter (afterAll bus before) this) later) ≡ false
 
--- Whatever card is granted in a run was the highest contender when it was.
+-- Who holds a grant at the end of a run got it as the highest contender of that time.
 abbrev pub GrantedIsHighest : Type 0
 GrantedIsHighest =
     (bus : Bus) → bus .phase < Phase.granted → (calls : List Call) → Phase.granted ≤ afterAll bus calls .phase

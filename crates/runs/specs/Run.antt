@@ -64,7 +64,7 @@ looksIn bus calls = speakersOf Kind.look (acceptedOf bus calls)
 abbrev pub IsRound : Bus → List Call → Type 0
 IsRound bus calls = isRound (arbitrationOf bus) (looksIn bus calls) ≡ true
 
--- no accepted acknowledge and no accepted reset: the arbitration goes on
+-- the arbitration isn't ended: of the accepted events none is an acknowledge, and none a reset
 pub record GoesOn (bus : Bus) (calls : List Call) : Type 0 where
   pub noGrant : hasKind Kind.acknowledge (acceptedOf bus calls) ≡ false
   pub noReset : hasKind Kind.reset (acceptedOf bus calls) ≡ false
