@@ -17,6 +17,7 @@ use Rattle.phases.specs.Driver.{driversIn}
 use Rattle.phases.specs.Status.{statusOf}
 use Rattle.memory.specs.Halves.{evenHalf, oddHalf, wordOf}
 use Rattle.memory.specs.Cycles.{inOneCycle, hasWord, afterWordWrite}
+use Rattle.memory.specs.Promises.{inWordCycles}
 use Rattle.memory.proofs.Moves.{byte-moves, word-moves, same-bytes}
 use Rattle.judgement.specs.Table.{Speaker, permanentMaster, masterOf, hasTurn, rowOf, rowIn}
 use Rattle.judgement.specs.Refusals.{hasStrayField, isTooWide, pageAt}
@@ -25,22 +26,7 @@ use Rattle.judgement.specs.declared.event.Event.{Event}
 use Rattle.events.specs.Machine.{Machine}
 use Rattle.events.specs.Cycles.{byteOf}
 use Rattle.events.specs.Answers.{wordSignals}
-use Rattle.events.specs.Promises.{
-  SpeakerDrives,
-  allPermanent,
-  allCard,
-  Accepted,
-  Moves,
-  onPage,
-  wordAdds,
-  ByteReadDoes,
-  OpcodeFetchDoes,
-  ByteWriteDoes,
-  InputDoes,
-  OutputDoes,
-  WordReadDoes,
-  WordWriteDoes,
-}
+use Rattle.events.specs.Promises.{SpeakerDrives, allPermanent, allCard, Accepted, Moves, wordAdds, ByteReadDoes, OpcodeFetchDoes, ByteWriteDoes, InputDoes, OutputDoes, WordReadDoes, WordWriteDoes}
 use Rattle.events.proofs.TakenLaws.{right-buffers, has-passed, phase-allows, speaker-has-turn, does}
 
 module _ (k : ℕ) (m : Machine) (event : Event) (ok : Accepted k m event) where
@@ -131,7 +117,7 @@ output-does m event ok =
 pub word-read-does : WordReadDoes
 unfolding rowIn isAmong beside wordSignals statusOf
 word-read-does m event ok sixteen page =
-    subst (λ (s : Bool). Moves m event (m .memory) (m .ports) (wordAdds s) 1 (onPage s datum)) page
+    subst (λ (s : Bool). Moves m event (m .memory) (m .ports) (wordAdds s) 1 (inWordCycles s datum)) page
     (does m event (ok .1) Kind.wordRead (ok .0) (m .bus) refl (m .memory) (m .ports) (rw (ok .0)) (rw (ok .0)) _
     (rw (ok .0) (word-moves _ (m .memory) (event .address) (a-word Kind.wordRead m event ok refl refl) .0)))
   where
@@ -148,7 +134,7 @@ word-written false memory a datum here = rw here
 pub word-write-does : WordWriteDoes
 unfolding rowIn isAmong beside wordSignals statusOf
 word-write-does m event ok sixteen page =
-    subst (λ (s : Bool). Moves m event left (m .ports) (wordAdds s) 0x10 (onPage s (event .datum))) page
+    subst (λ (s : Bool). Moves m event left (m .ports) (wordAdds s) 0x10 (inWordCycles s (event .datum))) page
     (does m event (ok .1) Kind.wordWrite (ok .0) (m .bus) refl left (m .ports)
     (rw (ok .0) (word-written _ (m .memory) (event .address) (event .datum) here))
     (rw (ok .0))

@@ -1,14 +1,13 @@
 -- A word over an eight-bit page and over a sixteen-bit one.
 use Prim.Native.Nat.{ℕ, _/_, _<_}
 use mathlib.Core.Path.{_≡_, refl, sym, subst, ap, ap₂, _∙_}
-use mathlib.Core.Bool.{Bool, true, false, not, cond, _&&_, _||_}
-use mathlib.Core.List.{List, [], _∷_}
+use mathlib.Core.Bool.{Bool, true, false, cond, _&&_}
+use mathlib.Core.List.{List}
 use native.Mathlib.Decide.{ℕ-discrete, decLt}
 use native.Mathlib.Omega.{arith}
-use lib.Dec.{eqb, leb, ltb}
+use lib.Dec.{eqb, leb}
 use lib.ListN.{length, getD, set, length-set}
 use lib.Seq.{getD-set-same, getD-set-other, set-out}
-use Rattle.words.specs.First.{reason, firstOf}
 use Rattle.words.specs.Among.{beside}
 use Rattle.words.proofs.TestLaws.{tests-same}
 use Rattle.words.proofs.ListLaws.{every-at, every-of}
@@ -20,7 +19,6 @@ use Rattle.memory.proofs.Moves.{same-bytes, same-datum}
 use Rattle.bus.specs.State.{withPages}
 use Rattle.bus.specs.Sense.{pagesKnown, contentionFits, drivingFits, grantFits, makesSense}
 use Rattle.bus.specs.declared.state.Bus.{Bus}
-use Rattle.judgement.specs.Refusals.{hasWrongBuffers, isMalformed, namesNobody, namesUnfitted, isWrongPhase, isUnsettled, isOddWord}
 use Rattle.judgement.specs.Judge.{refusalOf}
 use Rattle.judgement.specs.Table.{Speaker, unlisted, contender, grantedCard, master, hasTurn, rowOf}
 use Rattle.judgement.specs.declared.event.Event.{Event}
@@ -74,37 +72,15 @@ same-turn master bus pages speaker = refl
 same-refusal : (m : Machine) (event : Event) → refusalIn (withPageAt (event .address) 1 m) event ≡ refusalIn (withPageAt (event .address) 2 m) event
 unfolding refusalOf
 same-refusal m event =
-    alike (same-sense (m .bus) page) (same-turn who (m .bus) (codes 1) (event .speaker) ∙ sym (same-turn who (m .bus) (codes 2) (event .speaker)))
-    (same-presence (m .bus .pages) page)
+    rw (
+      same-sense (m .bus) page,
+      same-turn (rowOf (event .kind) .speaker) (m .bus) (set (m .bus .pages) page 1) (event .speaker),
+      same-turn (rowOf (event .kind) .speaker) (m .bus) (set (m .bus .pages) page 2) (event .speaker),
+      same-presence (m .bus .pages) page,
+    )
   where
-    who : Speaker
-    who = rowOf (event .kind) .speaker
-
     page : ℕ
     page = event .address / 0x1000
-
-    codes : ℕ → List ℕ
-    codes code = set (m .bus .pages) page code
-
-    judged : Bool → Bool → Bool → ℕ
-    judged sense turn absent =
-        firstOf (
-        reason 1 (hasWrongBuffers (m .memory) (m .ports))
-        ∷ reason 2 (not sense)
-        ∷ reason 3 (isMalformed event)
-        ∷ reason 4 (namesNobody event)
-        ∷ reason 5 (namesUnfitted (m .bus .fitted) event)
-        ∷ reason 6 (isWrongPhase (m .bus) event)
-        ∷ reason 7 (not turn)
-        ∷ reason 8 (isUnsettled (m .bus) event)
-        ∷ reason 9 (isOddWord event)
-        ∷ reason 10 (Kind.isOfMemory (event .kind) && (ltb 0xFFFF (event .address) || absent) || Kind.isOfPorts (event .kind) && ltb 0xFF (event .address))
-        ∷ []
-        )
-
-    alike : {a b c d e f : Bool} → a ≡ b → c ≡ d → e ≡ f → judged a c e ≡ judged b d f
-    alike {a} {b} {c} {d} {e} {f} sense turn absent =
-        ap (λ (x : Bool). judged x c e) sense ∙ ap (λ (x : Bool). judged b x e) turn ∙ ap (judged b d) absent
 
 -- ---- The bytes and the datum
 

@@ -14,7 +14,7 @@ use Rattle.phases.specs.Kind as Kind
 use Rattle.phases.specs.Signal.{HOLD, isOn, signalsIn}
 use Rattle.memory.specs.Cycles.{nothing}
 use Rattle.bus.specs.Refusal as Refusal
-use Rattle.judgement.specs.Table.{rowIn, permanentMaster, listsSpeaker, listsAddress, listsDatum}
+use Rattle.judgement.specs.Table.{eventOf, rowIn, permanentMaster, listsSpeaker, listsAddress, listsDatum}
 use Rattle.judgement.specs.Refusals.{isWrongPhase, hasStrayField, isTooWide, isMalformed}
 use Rattle.judgement.specs.Judge.{reasonsAgainst, refusalOf, soundRefusal}
 use Rattle.judgement.specs.declared.event.Event.{Event}
@@ -70,7 +70,7 @@ request-in-transfer-two m event p k = (
 pub request-too-early : RequestTooEarly
 unfolding soundRefusal firstOf rowIn
 request-too-early m cards p right sense some within =
-    sound-call (m .bus) (record { kind = Kind.request; speaker = 0; address = 0; datum = cards }) (m .memory) (m .ports) right (ap not sense)
+    sound-call (m .bus) (eventOf Kind.request 0 0 cards) (m .memory) (m .ports) right (ap not sense)
     ∙ rw (some, within, p)
 
 -- ---- The fields of an accepted event

@@ -15,12 +15,13 @@ use Rattle.phases.specs.Status.{sMEMR, sM1, sINP, sOUT, sWO}
 use Rattle.memory.specs.declared.Moved.{Moved}
 use Rattle.memory.specs.Halves.{evenHalf, oddHalf, wordOf}
 use Rattle.memory.specs.Cycles.{nothing, inOneCycle}
+use Rattle.memory.specs.Promises.{inWordCycles}
 use Rattle.cards.specs.Cards.{someCard, isWithin}
 use Rattle.bus.specs.Refusal as Refusal
 use Rattle.bus.specs.Sense.{makesSense}
 use Rattle.bus.specs.State.{nobody, silent, changed, withPages, linesOf}
 use Rattle.bus.specs.declared.state.Bus.{Bus}
-use Rattle.judgement.specs.Table.{permanentMaster, listsSpeaker, listsAddress, listsDatum}
+use Rattle.judgement.specs.Table.{eventOf, permanentMaster, listsSpeaker, listsAddress, listsDatum}
 use Rattle.judgement.specs.Refusals.{hasWrongBuffers}
 use Rattle.judgement.specs.Judge.{reasonsAgainst}
 use Rattle.judgement.specs.declared.event.Event.{Event}
@@ -215,10 +216,7 @@ OutputDoes =
     (m : Machine) (event : Event) → Accepted Kind.output m event
     → Moves m event (m .memory) (set (m .ports) (event .address) (event .datum)) 0 (sOUT + sWO) (inOneCycle (event .datum))
 
--- a word on a page of sixteen bits, and of eight
-abbrev pub onPage : Bool → ℕ → Moved
-onPage sixteen datum = record { datum = datum; cycles = cond sixteen 1 2 }
-
+-- the signals of a word
 abbrev pub wordAdds : Bool → ℕ
 wordAdds sixteen = sXTRQ + cond sixteen SIXTN 0
 
@@ -226,7 +224,7 @@ abbrev pub WordReadDoes : Type 0
 WordReadDoes =
     (m : Machine) (event : Event) → Accepted Kind.wordRead m event → (sixteen : Bool) → isSixteen (m .bus .pages) (event .address) ≡ sixteen
     → Moves m event (m .memory) (m .ports) (wordAdds sixteen) sMEMR
-    (onPage sixteen (wordOf (getD (m .memory) (event .address) 0) (getD (m .memory) (event .address + 1) 0)))
+    (inWordCycles sixteen (wordOf (getD (m .memory) (event .address) 0) (getD (m .memory) (event .address + 1) 0)))
 
 abbrev pub WordWriteDoes : Type 0
 WordWriteDoes =
@@ -236,7 +234,7 @@ WordWriteDoes =
     (m .ports)
     (wordAdds sixteen)
     sWO
-    (onPage sixteen (event .datum))
+    (inWordCycles sixteen (event .datum))
 
 -- In an accepted cycle the speaker drives all four groups of lines: it is the permanent master, or in the owned phase the granted card.
 abbrev pub SpeakerDrives : Type 0
@@ -276,4 +274,4 @@ abbrev pub RequestTooEarly : Type 0
 RequestTooEarly =
     (m : Machine) (cards : ℕ) → m .bus .phase ≡ Phase.transferTwo → hasWrongBuffers (m .memory) (m .ports) ≡ false → makesSense (m .bus) ≡ true
     → someCard cards ≡ true → isWithin cards (m .bus .fitted) ≡ true
-    → refusalIn m (record { kind = Kind.request; speaker = 0; address = 0; datum = cards }) ≡ Refusal.wrongPhase
+    → refusalIn m (eventOf Kind.request 0 0 cards) ≡ Refusal.wrongPhase

@@ -7,7 +7,7 @@ use lib.ListN.{replicate, set}
 use Rattle.phases.specs.Phase as Phase
 use Rattle.bus.specs.State.{freeBus, nobody, silent, stateOf}
 use Rattle.bus.specs.declared.state.Bus.{Bus}
-use Rattle.judgement.specs.Table.{rowOf, listsSpeaker, listsAddress, listsDatum}
+use Rattle.judgement.specs.Table.{eventOf, rowOf, listsSpeaker, listsAddress, listsDatum}
 use Rattle.judgement.specs.Judge.{soundRefusal}
 
 -- ---- Columns
@@ -59,7 +59,7 @@ threeGranted phase = stateOf 0x000A codes phase 0 silent 3
 
 -- the refusal of an event with these fields
 abbrev pub judged : Bus → ℕ → ℕ → ℕ → ℕ → ℕ
-judged bus kind speaker address datum = soundRefusal bus (record { kind = kind; speaker = speaker; address = address; datum = datum })
+judged bus kind speaker address datum = soundRefusal bus (eventOf kind speaker address datum)
 
 pub record Fields : Type 0 where
   pub kindZero : judged free 0x00 0 0 0 ≡ 0x03

@@ -9,6 +9,7 @@ use Rattle.phases.specs.Control.{allowsCycles}
 use Rattle.bus.specs.Refusal as Refusal
 use Rattle.cards.specs.Cards.{cardIn}
 use Rattle.bus.specs.declared.state.Bus.{Bus}
+use Rattle.judgement.specs.declared.event.Event.{Event}
 use Rattle.judgement.specs.declared.turns.Verdict.{Verdict}
 use Rattle.judgement.specs.declared.turns.Verdict.the-variants.{
   Refused,
@@ -22,6 +23,10 @@ use Rattle.judgement.specs.declared.turns.Verdict.the-variants.{
   GiveBack,
   Reset,
 }
+
+-- an event, field by field
+abbrev pub eventOf : ℕ → ℕ → ℕ → ℕ → Event
+eventOf kind speaker address datum = record { kind = kind; speaker = speaker; address = address; datum = datum }
 
 -- ---- What stands in the columns
 

@@ -15,7 +15,7 @@ use Rattle.bus.specs.Steps.{requested}
 use Rattle.bus.specs.Settle.{settleOf}
 use Rattle.bus.specs.declared.state.Bus.{Bus}
 use Rattle.bus.specs.Examples.{eightBit, fourNineTen, first, again}
-use Rattle.judgement.specs.Table.{permanentMaster}
+use Rattle.judgement.specs.Table.{eventOf, permanentMaster}
 use Rattle.judgement.specs.Refusals.{pageAt}
 use Rattle.judgement.specs.declared.event.Event.{Event}
 use Rattle.events.specs.Machine.{Machine, machine}
@@ -27,10 +27,10 @@ use Rattle.runs.specs.Promises.{spoken, lookBy, acknowledge, Right}
 
 -- a cycle of the permanent master's
 abbrev pub cycle : ℕ → ℕ → ℕ → Event
-cycle kind address datum = record { kind = kind; speaker = permanentMaster; address = address; datum = datum }
+cycle kind address datum = eventOf kind permanentMaster address datum
 
 abbrev pub request : ℕ → Event
-request cards = record { kind = Kind.request; speaker = 0; address = 0; datum = cards }
+request cards = eventOf Kind.request 0 0 cards
 
 -- an event that is lent memory and ports, and one that is lent none
 abbrev pub lent : Event → Bool × Event

@@ -13,6 +13,7 @@ use Rattle.bus.specs.State.{arbitrationOf, linesOf, isSettled}
 use Rattle.bus.specs.Sense.{makesSense}
 use Rattle.bus.specs.Setup.{setupOf}
 use Rattle.bus.specs.declared.state.Bus.{Bus}
+use Rattle.judgement.specs.Table.{eventOf}
 use Rattle.judgement.specs.Refusals.{hasWrongBuffers}
 use Rattle.judgement.specs.declared.event.Event.{Event}
 use Rattle.events.specs.Machine.{Machine}
@@ -38,7 +39,7 @@ OneMemory = (m : Machine) (events : List Event) → afterEvents m events .bus �
 
 -- an event with no more than a kind and a speaker
 abbrev pub spoken : ℕ → ℕ → Event
-spoken kind speaker = record { kind = kind; speaker = speaker; address = 0; datum = 0 }
+spoken kind speaker = eventOf kind speaker 0 0
 
 abbrev pub lookBy : ℕ → Event
 lookBy card = spoken Kind.look card

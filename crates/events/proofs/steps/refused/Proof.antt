@@ -1,5 +1,5 @@
 -- By whether the number comes with the bus.
-use mathlib.Core.Path.{ap, _∙_}
+use mathlib.Core.Path.{ap}
 use borrow.Author.Needs.{needs}
 use borrow.Author.Tests.{le-leb, lt-leb}
 use Rattle.words.proofs.TestLaws.{then-pick, else-pick}

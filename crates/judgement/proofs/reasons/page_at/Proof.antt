@@ -1,4 +1,5 @@
 -- By whether there is such a page.
+use mathlib.Core.Path.{refl}
 use borrow.Author.Needs.{needs}
 use Rattle.judgement.proofs.TableLaws.{no-page}
 use Rattle.judgement.proofs.reasons.page_at.Statement.{statement}
@@ -10,5 +11,5 @@ page-at-spec =
     (tie.spec
     (λ c. search needs)
     (λ c. search needs)
-    (λ c. search needs)
+    (λ c. refl)
     (λ c. no-page (c .before .args .t1) (search needs) (c .before .args .address) (c .if1 .left)))
