@@ -47,3 +47,7 @@ absent = 0x0A
 -- setup was given a page code above 2
 abbrev pub badPage : ℕ
 badPage = 0x0B
+
+-- a text line of the wrong length, or with a byte that is no digit
+abbrev pub badLine : ℕ
+badLine = 0x0C

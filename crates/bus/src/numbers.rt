@@ -27,3 +27,5 @@ pub const ODD_WORD: u8 = 0x09;
 pub const ABSENT: u8 = 0x0A;
 
 pub const BAD_PAGE: u8 = 0x0B;
+
+pub const BAD_LINE: u8 = 0x0C;

@@ -1,0 +1,354 @@
+// The text program written plainly in Rust, to be timed against s100.
+use std::io::{self, BufRead, BufWriter, Write};
+
+const FREE: u8 = 0;
+const ARBITRATION: u8 = 1;
+const GRANTED: u8 = 2;
+const TRANSFER_ONE: u8 = 3;
+const OWNED: u8 = 4;
+const TRANSFER_TWO: u8 = 5;
+
+const NOBODY: u8 = 0xFF;
+const PERMANENT_MASTER: u8 = 0x10;
+
+const SIGNALS: [u8; 6] = [0x00, 0x01, 0x03, 0x1F, 0x3F, 0x1E];
+const STATUS: [u8; 16] = [0, 0, 0, 0, 0, 0, 0x01, 0x03, 0x10, 0x01, 0x10, 0x04, 0x18, 0, 0, 0];
+
+struct Event {
+    kind: u8,
+    speaker: u8,
+    address: usize,
+    datum: u16,
+}
+
+#[derive(Default)]
+struct Answer {
+    refusal: u8,
+    phase: u8,
+    granted: u8,
+    lines: u8,
+    signals: u8,
+    status: u8,
+    cycles: u8,
+    datum: u16,
+}
+
+struct Machine {
+    fitted: u16,
+    pages: [u8; 16],
+    phase: u8,
+    contenders: u16,
+    driven: [u8; 16],
+    granted: u8,
+    memory: Vec<u8>,
+    ports: Vec<u8>,
+}
+
+/// What a card drives after a look at these lines.
+fn look(card: u8, lines: u8) -> u8 {
+    let mut drives = 0;
+    for bit in [8, 4, 2, 1] {
+        if card & bit != 0 {
+            drives |= bit;
+        } else if lines & bit != 0 {
+            break;
+        }
+    }
+    drives
+}
+
+impl Event {
+    fn is_cycle(&self) -> bool {
+        (0x06..=0x0C).contains(&self.kind)
+    }
+
+    fn is_word(&self) -> bool {
+        self.kind == 0x09 || self.kind == 0x0A
+    }
+
+    fn lists_speaker(&self) -> bool {
+        self.kind == 0x02 || (0x04..=0x0E).contains(&self.kind)
+    }
+
+    fn lists_datum(&self) -> bool {
+        matches!(self.kind, 0x01 | 0x08 | 0x0A | 0x0C)
+    }
+
+    fn is_malformed(&self) -> bool {
+        !(0x01..=0x0F).contains(&self.kind)
+            || self.speaker > PERMANENT_MASTER
+            || (!self.lists_speaker() && self.speaker != 0)
+            || (!self.is_cycle() && self.address != 0)
+            || (!self.lists_datum() && self.datum != 0)
+            || ((self.kind == 0x08 || self.kind == 0x0C) && self.datum > 0xFF)
+    }
+}
+
+impl Machine {
+    fn new(fitted: u16, pages: [u8; 16]) -> Machine {
+        Machine {
+            fitted,
+            pages,
+            phase: FREE,
+            contenders: 0,
+            driven: [0; 16],
+            granted: NOBODY,
+            memory: vec![0; 0x10000],
+            ports: vec![0; 0x100],
+        }
+    }
+
+    fn contends(&self, card: u8) -> bool {
+        self.contenders >> card & 1 == 1
+    }
+
+    fn lines(&self) -> u8 {
+        (0..16).filter(|&card| self.contends(card)).fold(0, |lines, card| lines | self.driven[card as usize])
+    }
+
+    fn is_settled(&self) -> bool {
+        let lines = self.lines();
+        (0..16).all(|card| !self.contends(card) || look(card, lines) == self.driven[card as usize])
+    }
+
+    fn names_unfitted(&self, e: &Event) -> bool {
+        (e.lists_speaker() && e.speaker < 16 && self.fitted >> e.speaker & 1 == 0)
+            || (e.kind == 0x01 && e.datum & !self.fitted != 0)
+    }
+
+    fn phase_allows(&self, kind: u8) -> bool {
+        match kind {
+            0x01 => self.phase == FREE,
+            0x02 | 0x03 => self.phase == ARBITRATION,
+            0x04 => self.phase == GRANTED,
+            0x05 => self.phase == TRANSFER_ONE,
+            0x0D => self.phase == OWNED,
+            0x0E => self.phase == TRANSFER_TWO,
+            0x0F => true,
+            _ => matches!(self.phase, FREE | ARBITRATION | OWNED),
+        }
+    }
+
+    fn has_turn(&self, e: &Event) -> bool {
+        match e.kind {
+            0x01 | 0x03 | 0x0F => true,
+            0x02 => e.speaker < 16 && self.contends(e.speaker),
+            0x04 | 0x05 | 0x0D | 0x0E => e.speaker == self.granted,
+            _ => e.speaker == if self.phase == OWNED { self.granted } else { PERMANENT_MASTER },
+        }
+    }
+
+    fn is_absent(&self, e: &Event) -> bool {
+        match e.kind {
+            0x0B | 0x0C => e.address > 0xFF,
+            0x06..=0x0A => e.address > 0xFFFF || self.pages[e.address >> 12] == 0,
+            _ => false,
+        }
+    }
+
+    fn refusal(&self, e: &Event) -> u8 {
+        if e.is_malformed() {
+            0x03
+        } else if e.kind == 0x01 && e.datum == 0 {
+            0x04
+        } else if self.names_unfitted(e) {
+            0x05
+        } else if !self.phase_allows(e.kind) {
+            0x06
+        } else if !self.has_turn(e) {
+            0x07
+        } else if e.kind == 0x03 && !self.is_settled() {
+            0x08
+        } else if e.is_word() && e.address % 2 != 0 {
+            0x09
+        } else if self.is_absent(e) {
+            0x0A
+        } else {
+            0
+        }
+    }
+
+    fn stop_contention(&mut self) {
+        self.contenders = 0;
+        self.driven = [0; 16];
+    }
+
+    /// The step of an accepted event; what a cycle had on the bus.
+    fn take_step(&mut self, e: &Event) -> u16 {
+        let at = e.address;
+        match e.kind {
+            0x01 => {
+                self.stop_contention();
+                self.phase = ARBITRATION;
+                self.contenders = e.datum;
+            }
+            0x02 => self.driven[e.speaker as usize] = look(e.speaker, self.lines()),
+            0x03 => {
+                self.granted = self.lines();
+                self.phase = GRANTED;
+                self.stop_contention();
+            }
+            0x04 => self.phase = TRANSFER_ONE,
+            0x05 => self.phase = OWNED,
+            0x06 | 0x07 => return self.memory[at].into(),
+            0x08 => {
+                self.memory[at] = e.datum as u8;
+                return e.datum;
+            }
+            0x09 => return u16::from_be_bytes([self.memory[at], self.memory[at + 1]]),
+            0x0A => {
+                self.memory[at..at + 2].copy_from_slice(&e.datum.to_be_bytes());
+                return e.datum;
+            }
+            0x0B => return self.ports[at].into(),
+            0x0C => {
+                self.ports[at] = e.datum as u8;
+                return e.datum;
+            }
+            0x0D => self.phase = TRANSFER_TWO,
+            0x0E => {
+                self.phase = FREE;
+                self.granted = NOBODY;
+            }
+            _ => {
+                self.phase = FREE;
+                self.granted = NOBODY;
+                self.stop_contention();
+            }
+        }
+        0
+    }
+
+    fn show(&self, mut a: Answer) -> Answer {
+        a.phase = self.phase;
+        a.granted = self.granted;
+        a.lines = self.lines();
+        a.signals |= SIGNALS[self.phase as usize];
+        a
+    }
+
+    fn step(&mut self, e: &Event) -> Answer {
+        let mut a = Answer { refusal: self.refusal(e), ..Answer::default() };
+        if a.refusal == 0 {
+            a.datum = self.take_step(e);
+            a.status = STATUS[e.kind as usize];
+            a.cycles = e.is_cycle().into();
+            if e.is_word() {
+                let sixteen = self.pages[e.address >> 12] == 2;
+                a.cycles = if sixteen { 1 } else { 2 };
+                a.signals = if sixteen { 0xC0 } else { 0x80 };
+            }
+        }
+        self.show(a)
+    }
+}
+
+fn digit(c: u8) -> Option<u32> {
+    match c {
+        b'0'..=b'9' => Some(u32::from(c - b'0')),
+        b'A'..=b'F' => Some(u32::from(c - b'A' + 10)),
+        _ => None,
+    }
+}
+
+fn number(digits: &[u8]) -> Option<u32> {
+    digits.iter().try_fold(0, |n, &c| Some(n << 4 | digit(c)?))
+}
+
+fn event(line: &[u8]) -> Option<Event> {
+    if line.len() != 14 {
+        return None;
+    }
+    Some(Event {
+        kind: number(&line[0..2])? as u8,
+        speaker: number(&line[2..4])? as u8,
+        address: number(&line[4..10])? as usize,
+        datum: number(&line[10..14])? as u16,
+    })
+}
+
+/// The machine of a setup line, or the refusal.
+fn set_up(line: &[u8]) -> Result<Machine, u8> {
+    if line.len() != 20 {
+        return Err(0x0C);
+    }
+    let fitted = number(&line[0..4]).ok_or(0x0C)?;
+    let mut pages = [0; 16];
+    for (page, &c) in pages.iter_mut().zip(&line[4..]) {
+        *page = digit(c).ok_or(0x0C)? as u8;
+    }
+    if pages.iter().any(|&page| page > 2) {
+        return Err(0x0B);
+    }
+    Ok(Machine::new(fitted as u16, pages))
+}
+
+fn bare(refusal: u8) -> Answer {
+    Answer { refusal, ..Answer::default() }
+}
+
+fn put(out: &mut impl Write, a: &Answer) -> io::Result<()> {
+    const DIGITS: &[u8; 16] = b"0123456789ABCDEF";
+    let [high, low] = a.datum.to_be_bytes();
+    let mut line = [b'\n'; 19];
+    let bytes = [a.refusal, a.phase, a.granted, a.lines, a.signals, a.status, a.cycles, high, low];
+    for (two, byte) in line.chunks_exact_mut(2).zip(bytes) {
+        two[0] = DIGITS[usize::from(byte >> 4)];
+        two[1] = DIGITS[usize::from(byte & 15)];
+    }
+    out.write_all(&line)
+}
+
+/// Answers a line; whether the run goes on.
+fn answer(machine: &mut Option<Machine>, line: &[u8], out: &mut impl Write) -> io::Result<bool> {
+    match machine {
+        Some(m) => {
+            let a = event(line).map_or_else(|| bare(0x0C), |e| m.step(&e));
+            put(out, &a)?;
+            Ok(true)
+        }
+        None => match set_up(line) {
+            Ok(m) => {
+                put(out, &m.show(Answer::default()))?;
+                *machine = Some(m);
+                Ok(true)
+            }
+            Err(number) => {
+                put(out, &bare(number))?;
+                Ok(false)
+            }
+        },
+    }
+}
+
+fn main() -> io::Result<()> {
+    let mut input = io::BufReader::with_capacity(65536, io::stdin());
+    let mut out = BufWriter::with_capacity(65536, io::stdout());
+    let mut machine = None;
+    // An unfinished line, cut at one byte more than the longest that is right.
+    let mut held: Vec<u8> = Vec::with_capacity(21);
+    loop {
+        let text = input.fill_buf()?;
+        let got = text.len();
+        if got == 0 {
+            break;
+        }
+        for &c in text {
+            if c != b'\n' {
+                if held.len() < 21 {
+                    held.push(c);
+                }
+                continue;
+            }
+            if !answer(&mut machine, &held, &mut out)? {
+                return out.flush();
+            }
+            held.clear();
+        }
+        input.consume(got);
+    }
+    if !held.is_empty() {
+        answer(&mut machine, &held, &mut out)?;
+    }
+    out.flush()
+}

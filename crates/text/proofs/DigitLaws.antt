@@ -1,0 +1,147 @@
+-- Digits without a branch; numbers digit by digit.
+use mathlib.Core.Path.{_≡_, refl, sym, ap, _∙_}
+use mathlib.Core.Logic.{_⊎_, inl, inr, ⊎-elim}
+use mathlib.Core.Bool.{Bool, true, false, cond, _&&_, false≢true}
+use mathlib.Core.List.{List, [], _∷_, _++_, map, map-append}
+use Prim.Native.Nat.{ℕ, suc, _+_, _*_, _-_, _/_, _%_, _<_, _≤_}
+use native.Mathlib.Omega.{arith}
+use lib.Dec.{leb}
+use lib.ListN.{length, getD, take, drop, set, length-drop}
+use lib.Seq.{drop-cons, getD-drop, take-suc, take-suc-set, sets}
+use borrow.Author.Tests.{leb-true, leb-false, le-leb, lt-leb}
+use Rattle.words.specs.Among.{everyListed}
+use Rattle.words.proofs.TestLaws.{true-or-false, either-of, then-pick, else-pick}
+use Rattle.words.proofs.ListLaws.{every-at}
+use Rattle.text.specs.Digits.{isDigit, valueOf, digitOf, numberAfter, numberOf, digitsOf}
+use Rattle.text.specs.Frames.{part}
+
+-- ---- One digit
+
+pub both-of : (a b : Bool) → (a && b) ≡ true → (a ≡ true) × (b ≡ true)
+both-of true b e = (refl, e)
+both-of false true e = (e, refl)
+both-of false false e = (e, e)
+
+-- a digit is one of two kinds
+pub digit-kinds : (b : ℕ) → isDigit b ≡ true → ((0x30 ≤ b) × (b ≤ 0x39)) ⊎ ((0x41 ≤ b) × (b ≤ 0x46))
+digit-kinds b e =
+    ⊎-elim
+    (λ low. let h = both-of (leb 0x30 b) (leb b 0x39) low in inl (leb-true 0x30 b (h .0), leb-true b 0x39 (h .1)))
+    (λ high. let h = both-of (leb 0x41 b) (leb b 0x46) high in inr (leb-true 0x41 b (h .0), leb-true b 0x46 (h .1)))
+    (either-of (leb 0x30 b && leb b 0x39) (leb 0x41 b && leb b 0x46) e)
+
+-- the digit of n, without a branch
+pub digit-flat : (n : ℕ) → n < 16 → n + 0x30 + n / 10 * 7 ≡ digitOf n
+digit-flat n h = go (leb n 9) refl
+  where
+    go : (t : Bool) → leb n 9 ≡ t → n + 0x30 + n / 10 * 7 ≡ cond (leb n 9) (0x30 + n) (0x37 + n)
+    go true e = then-pick (0x37 + n) e (omega (arith, leb-true n 9 e))
+    go false e = else-pick (0x30 + n) e (omega (arith, leb-false n 9 e, h))
+
+pub value-flat : (b : ℕ) → isDigit b ≡ true → b % 16 + b / 64 * 9 ≡ valueOf b
+value-flat b e =
+    ⊎-elim
+    (λ low. then-pick (b - 0x37) (le-leb b 0x39 (low .1)) (omega (arith, low .0, low .1)))
+    (λ high. else-pick (b - 0x30) (lt-leb b 0x39 (omega (arith, high .0))) (omega (arith, high .0, high .1)))
+    (digit-kinds b e)
+
+pub value-small : (b : ℕ) → isDigit b ≡ true → valueOf b < 16
+value-small b e =
+    ⊎-elim
+    (λ low. omega (arith, value-flat b e, low .0, low .1))
+    (λ high. omega (arith, value-flat b e, high .0, high .1))
+    (digit-kinds b e)
+
+-- ---- Numbers
+
+-- one more digit of a part
+one-digit : (n at next count : ℕ) (line : List ℕ) → suc at ≡ next → at < length line
+    → numberAfter n (part at (suc count) line) ≡ numberAfter (n * 16 + valueOf (getD line at 0)) (part next count line)
+unfolding numberAfter
+one-digit n at next count line e h =
+    ap (λ (l : List ℕ). numberAfter n (take (suc count) l)) (drop-cons line at 0 h)
+    ∙ ap (λ (k : ℕ). numberAfter (n * 16 + valueOf (getD line at 0)) (part k count line)) e
+
+no-digit : (n at : ℕ) (line : List ℕ) → numberAfter n (part at 0 line) ≡ n
+unfolding numberAfter
+no-digit n at line = refl
+
+-- two more
+pair-of : (n at count : ℕ) (line : List ℕ) → at + 2 ≤ length line
+    → numberAfter n (part at (suc (suc count)) line)
+    ≡ numberAfter ((n * 16 + valueOf (getD line at 0)) * 16 + valueOf (getD line (at + 1) 0)) (part (at + 2) count line)
+pair-of n at count line h =
+    one-digit n at (at + 1) (suc count) line (omega arith) (omega (arith, h))
+    ∙ one-digit _ (at + 1) (at + 2) count line (omega arith) (omega (arith, h))
+
+pub two-digits : (at : ℕ) (line : List ℕ) → at + 2 ≤ length line
+    → numberOf (part at 2 line) ≡ valueOf (getD line at 0) * 16 + valueOf (getD line (at + 1) 0)
+two-digits at line h = pair-of 0 at 0 line h ∙ no-digit _ (at + 2) line ∙ omega arith
+
+two-more : (n at count : ℕ) (line : List ℕ) → at + 2 ≤ length line
+    → numberAfter n (part at (suc (suc count)) line) ≡ numberAfter (n * 0x100 + numberOf (part at 2 line)) (part (at + 2) count line)
+two-more n at count line h =
+    pair-of n at count line h
+    ∙ ap (λ (k : ℕ). numberAfter k (part (at + 2) count line)) (omega (arith, two-digits at line h))
+
+four-more : (n at : ℕ) (line : List ℕ) → at + 4 ≤ length line
+    → numberAfter n (part at 4 line) ≡ (n * 0x100 + numberOf (part at 2 line)) * 0x100 + numberOf (part (at + 2) 2 line)
+four-more n at line h =
+    two-more n at 2 line (omega (arith, h)) ∙ two-more _ (at + 2) 0 line (omega (arith, h)) ∙ no-digit _ (at + 2 + 2) line
+
+pub four-digits : (at : ℕ) (line : List ℕ) → at + 4 ≤ length line
+    → numberOf (part at 4 line) ≡ numberOf (part at 2 line) * 0x100 + numberOf (part (at + 2) 2 line)
+four-digits at line h = four-more 0 at line h ∙ omega arith
+
+pub six-digits : (at : ℕ) (line : List ℕ) → at + 6 ≤ length line
+    → numberOf (part at 6 line) ≡ numberOf (part at 2 line) * 0x10000 + numberOf (part (at + 2) 4 line)
+six-digits at line h =
+    two-more 0 at 4 line (omega (arith, h))
+    ∙ four-more _ (at + 2) line (omega (arith, h))
+    ∙ omega (arith, four-digits (at + 2) line (omega (arith, h)))
+
+-- a byte in two digits
+pub digits-two : (n : ℕ) → digitsOf 2 n ≡ digitOf (n / 16 % 16) ∷ digitOf (n % 16) ∷ []
+unfolding digitsOf
+digits-two n = refl
+
+pub small-two : (at : ℕ) (line : List ℕ) → at + 2 ≤ length line → everyListed isDigit line ≡ true → numberOf (part at 2 line) < 256
+small-two at line h e =
+    omega (
+      arith,
+      two-digits at line h,
+      value-small (getD line at 0) (every-at isDigit line e at (omega (arith, h))),
+      value-small (getD line (at + 1) 0) (every-at isDigit line e (at + 1) (omega (arith, h))),
+    )
+
+-- where a byte is no digit, not all are
+pub not-all : (line : List ℕ) (i : ℕ) → i < length line → isDigit (getD line i 0) ≡ false → false ≡ everyListed isDigit line
+not-all line i h e = ⊎-elim (λ all. absurd (false≢true (sym e ∙ every-at isDigit line all i h))) (λ none. sym none) (true-or-false (everyListed isDigit line))
+
+-- two stores put the digits of a byte
+pub two-put : (place : List ℕ) (at b high low : ℕ) → high ≡ digitOf (b / 16 % 16) → low ≡ digitOf (b % 16)
+    → set (set place at high) (at + 1) low ≡ sets place at (digitsOf 2 b)
+unfolding digitsOf
+two-put place at b high low h l =
+    let one : at + 1 ≡ suc at = omega arith in
+    ap (λ (k : ℕ). set (set place at high) k low) one ∙ rw (h, l) refl
+
+-- four digits are two and two
+pub halves-put : (datum : ℕ) → digitsOf 2 (datum / 256) ++ digitsOf 2 (datum % 256) ≡ digitsOf 4 datum
+unfolding digitsOf
+halves-put datum =
+    let a : datum / 256 / 16 % 16 ≡ datum / 16 / 16 / 16 % 16 = omega arith in
+    let b : datum / 256 % 16 ≡ datum / 16 / 16 % 16 = omega arith in
+    let c : datum % 256 / 16 % 16 ≡ datum / 16 % 16 = omega arith in
+    let d : datum % 256 % 16 ≡ datum % 16 = omega arith in
+    rw (a, b, c, d) refl
+
+-- the pages, digit by digit
+pub page-next : (line pages : List ℕ) (i : ℕ) → i < 16 → length pages ≡ 16 → length line ≡ 20 → take i pages ≡ map valueOf (part 4 i line)
+    → take (suc i) (set pages i (valueOf (getD line (4 + i) 0))) ≡ map valueOf (part 4 (suc i) line)
+page-next line pages i h size whole so =
+    take-suc-set pages i (valueOf (getD line (4 + i) 0)) (omega (arith, size, h))
+    ∙ ap (λ (l : List ℕ). l ++ valueOf (getD line (4 + i) 0) ∷ []) so
+    ∙ ap (λ (b : ℕ). map valueOf (part 4 i line) ++ valueOf b ∷ []) (sym (getD-drop 4 line i 0))
+    ∙ sym (map-append valueOf (part 4 i line) (getD (drop 4 line) i 0 ∷ []))
+    ∙ ap (map valueOf) (sym (take-suc (drop 4 line) i 0 (omega (arith, length-drop 4 line, whole, h))))

@@ -1,0 +1,91 @@
+-- Where a text begins with a right event line; what else it may begin with.
+use mathlib.Core.Path.{_≡_, refl, sym, ap, subst, _∙_}
+use mathlib.Core.Logic.{⊎-elim}
+use mathlib.Core.Bool.{Bool, true, false, cond, _||_, _&&_}
+use mathlib.Core.List.{List, [], _∷_, _++_}
+use Prim.Native.Nat.{ℕ, zero, suc, _+_, _<_, _≤_}
+use native.Mathlib.Omega.{arith}
+use lib.Dec.{eqb}
+use lib.ListN.{length, getD, take, drop, length-append}
+use lib.Seq.{take-at, getD-at, getD-take, length-take-le}
+use borrow.Author.Tests.{eqb-true, eq-eqb, ne-eqb}
+use Rattle.words.specs.Among.{everyListed}
+use Rattle.words.proofs.TestLaws.{true-or-false, tests-same}
+use Rattle.words.proofs.ListLaws.{every-at}
+use Rattle.text.specs.declared.frames.Line.{Line}
+use Rattle.text.specs.Digits.{isDigit, isDigits}
+use Rattle.text.specs.Newlines.{newline, hasNewline, firstLine, restOf}
+use Rattle.text.specs.Frames.{eventDigits, eventIn, nextLine}
+use Rattle.text.proofs.DigitLaws.{both-of, digit-kinds}
+use Rattle.text.proofs.NewlineLaws.{splits, unended, line-within}
+
+-- no digit ends a line
+digit-stays : (b : ℕ) → isDigit b ≡ true → b ≡ newline → ⊥
+digit-stays b e n = ⊎-elim (λ low. omega (arith, low .0, n)) (λ high. omega (arith, high .0, n)) (digit-kinds b e)
+
+-- the first newline is the one with none before it
+pub first-at : (k : ℕ) (text : List ℕ) → k < length text → ((i : ℕ) → i < k → getD text i 0 ≡ newline → ⊥) → getD text k 0 ≡ newline
+    → (firstLine text ≡ take k text) × (hasNewline text ≡ true)
+unfolding firstLine hasNewline
+first-at zero (b ∷ text) h none ends = rw (eq-eqb b newline ends) (refl, refl)
+first-at (suc k) (b ∷ text) h none ends =
+    let so = first-at k text (omega (arith, h)) (λ i below. none (suc i) (omega (arith, below))) ends in
+    rw (ne-eqb b newline (none 0 (omega arith))) (ap (λ (l : List ℕ). b ∷ l) (so .0), so .1)
+first-at k [] h none ends = absurd (omega (arith, h))
+
+-- the text begins with fourteen digits and a newline
+abbrev leads : List ℕ → Bool
+leads text = hasNewline text && isDigits eventDigits (firstLine text)
+
+pub record Led (text : List ℕ) : Type 0 where
+  pub long : 14 < length text
+  pub ends : getD text 14 0 ≡ newline
+  pub line : firstLine text ≡ take 14 text
+  pub right : everyListed isDigit (take 14 text) ≡ true
+
+pub led : (text : List ℕ) → leads text ≡ true → Led text
+led text e =
+    let both = both-of (hasNewline text) (isDigits eventDigits (firstLine text)) e in
+    let digits = both-of (eqb (length (firstLine text)) 14) (everyListed isDigit (firstLine text)) (both .1) in
+    let size : length (firstLine text) ≡ 14 = eqb-true (length (firstLine text)) 14 (digits .0) in
+    let line : firstLine text ≡ take 14 text =
+    sym (ap (take 14) (splits text (both .0)) ∙ take-at (firstLine text) (newline ∷ restOf text) 14 size) in
+    record {
+      long = omega (arith, size, line-within text (both .0));
+      ends = ap (λ (l : List ℕ). getD l 14 0) (splits text (both .0)) ∙ getD-at (firstLine text) newline (restOf text) 0 14 size;
+      line = line;
+      right = subst (λ (l : List ℕ). everyListed isDigit l ≡ true) line (digits .1);
+    }
+
+pub lead-of : (text : List ℕ) → 14 < length text → getD text 14 0 ≡ newline → everyListed isDigit (take 14 text) ≡ true → leads text ≡ true
+lead-of text h ends right =
+    let size : length (take 14 text) ≡ 14 = length-take-le 14 text (omega (arith, h)) in
+    let so = first-at 14 text h
+    (λ i below n. digit-stays (getD text i 0) (subst (λ (b : ℕ). isDigit b ≡ true) (getD-take 14 text i 0 below) (every-at isDigit (take 14 text) right i (omega (arith, size, below)))) n)
+    ends in
+    rw (so .0, so .1, right) (ap (λ (n : ℕ). eqb n 14 && true) size)
+
+-- a text is led by a frame exactly where the code finds one
+pub lead-found : (text : List ℕ) → 14 < length text → getD text 14 0 ≡ newline → everyListed isDigit (take 14 text) ≡ leads text
+lead-found text h ends = tests-same (everyListed isDigit (take 14 text)) (leads text) (lead-of text h ends) (λ e. led text e .right)
+
+pub no-lead : (text : List ℕ) → (Led text → ⊥) → false ≡ leads text
+no-lead text none = ⊎-elim (λ e. absurd (none (led text e))) (λ e. sym e) (true-or-false (leads text))
+
+-- ---- The next line
+
+pub frame-next : (text : List ℕ) → leads text ≡ true → Line.Frame (eventIn (take 14 text)) ≡ nextLine text
+frame-next text e =
+    let both = both-of (hasNewline text) (isDigits eventDigits (firstLine text)) e in
+    ap (λ (l : List ℕ). Line.Frame (eventIn l)) (sym (led text e .line)) ∙ rw (both .0, both .1) refl
+
+pub bad-next : (text : List ℕ) → leads text ≡ false → length (firstLine text) < length text → Line.Bad (length (firstLine text)) ≡ nextLine text
+bad-next text e shorter =
+    ⊎-elim
+    (λ (has : hasNewline text ≡ true). let wrong : isDigits eventDigits (firstLine text) ≡ false = subst (λ (t : Bool). (t && isDigits eventDigits (firstLine text)) ≡ false) has e in rw (has, wrong) refl)
+    (λ has. absurd (omega (arith, shorter, ap length (unended text has))))
+    (true-or-false (hasNewline text))
+
+pub unended-next : (text : List ℕ) → length text ≤ length (firstLine text) → Line.Unended ≡ nextLine text
+unended-next text whole =
+    ⊎-elim (λ has. absurd (omega (arith, whole, line-within text has))) (λ has. rw has refl) (true-or-false (hasNewline text))

@@ -1,0 +1,4 @@
+-- Laws that the functions' proofs cite, and the promises' proofs.
+pub mod DigitLaws
+pub mod NewlineLaws
+pub mod FrameLaws

@@ -1,0 +1,59 @@
+-- The first newline of a text, and its lines.
+use mathlib.Core.Path.{_≡_, refl, sym, ap, subst, _∙_}
+use mathlib.Core.Logic.{_⊎_, inl, inr, ⊎-elim}
+use mathlib.Core.Bool.{Bool, true, false, cond, _||_, false≢true}
+use mathlib.Core.List.{List, [], _∷_, _++_, append-assoc, append-nil}
+use Prim.Native.Nat.{ℕ, zero, suc, _+_, _<_, _≤_}
+use native.Mathlib.Omega.{arith}
+use lib.Dec.{eqb}
+use lib.ListN.{length, getD, take, drop, length-append}
+use lib.Seq.{append-snoc, drop-cons, drop-length}
+use borrow.Author.Tests.{eqb-true, eq-eqb, ne-eqb}
+use Rattle.words.proofs.TestLaws.{true-or-false, else-of, neither-of}
+use Rattle.text.specs.Newlines.{newline, hasNewline, firstLine, restOf, lastLine, linesAfter, linesOf}
+
+-- ---- The first newline
+
+-- what is true of [], of a newline with anything behind it, and of another byte before a text of which it is true, is true of every text
+pub by-newline : (P : List ℕ → Type 0) → P [] → ((b : ℕ) (text : List ℕ) → eqb b newline ≡ true → P (b ∷ text))
+    → ((b : ℕ) (text : List ℕ) → eqb b newline ≡ false → P text → P (b ∷ text)) → (text : List ℕ) → P text
+by-newline P none ends goes [] = none
+by-newline P none ends goes (b ∷ text) =
+    ⊎-elim (λ t. ends b text t) (λ t. goes b text t (by-newline P none ends goes text)) (true-or-false (eqb b newline))
+
+-- a text with a newline is its first line, the newline and the rest
+pub splits : (text : List ℕ) → hasNewline text ≡ true → text ≡ firstLine text ++ newline ∷ restOf text
+unfolding hasNewline firstLine restOf
+splits =
+    by-newline (λ text. hasNewline text ≡ true → text ≡ firstLine text ++ newline ∷ restOf text)
+    (λ e. absurd (false≢true e))
+    (λ b text t e. rw t (ap (λ (x : ℕ). x ∷ text) (eqb-true b newline t)))
+    (λ b text t so e. rw t (ap (λ (l : List ℕ). b ∷ l) (so (else-of (eqb b newline) (hasNewline text) e t))))
+
+-- a text without one is its first line
+pub unended : (text : List ℕ) → hasNewline text ≡ false → firstLine text ≡ text
+unfolding hasNewline firstLine
+unended =
+    by-newline (λ text. hasNewline text ≡ false → firstLine text ≡ text)
+    (λ e. refl)
+    (λ b text t e. absurd (false≢true (sym (neither-of (eqb b newline) (hasNewline text) e .0) ∙ t)))
+    (λ b text t so e. rw t (ap (λ (l : List ℕ). b ∷ l) (so (neither-of (eqb b newline) (hasNewline text) e .1))))
+
+-- the first line is within the text, and shorter exactly where there is a newline
+pub line-within : (text : List ℕ) → hasNewline text ≡ true → length (firstLine text) < length text
+line-within text e = subst (λ (l : List ℕ). length (firstLine text) < length l) (sym (splits text e)) (omega (arith, length-append (firstLine text) (newline ∷ restOf text)))
+
+-- ---- Where the first line ends, looked for byte by byte
+
+pub line-at : (text : List ℕ) (i : ℕ) → i < length text → getD text i 0 ≡ newline → firstLine (drop i text) ≡ []
+unfolding firstLine
+line-at text i h e = ap firstLine (drop-cons text i 0 h) ∙ rw (eq-eqb (getD text i 0) newline e) refl
+
+pub line-on : (text : List ℕ) (i : ℕ) → i < length text → (getD text i 0 ≡ newline → ⊥)
+    → length (firstLine (drop i text)) ≡ suc (length (firstLine (drop (suc i) text)))
+unfolding firstLine
+line-on text i h e = ap (λ (l : List ℕ). length (firstLine l)) (drop-cons text i 0 h) ∙ rw (ne-eqb (getD text i 0) newline e) refl
+
+pub line-none : (text : List ℕ) → firstLine (drop (length text) text) ≡ []
+unfolding firstLine
+line-none text = ap firstLine (drop-length text)

@@ -1,0 +1,46 @@
+-- The answer line (01, "The program and one whole run"): seven fields of two digits, the datum of four, a newline.
+use Prim.Native.Nat.{ℕ}
+use mathlib.Core.Bool.{cond}
+use mathlib.Core.List.{List, [], _∷_, _++_}
+use lib.Dec.{leb}
+use lib.ListN.{length}
+use lib.Seq.{sets}
+use Rattle.events.specs.declared.answers.Answer.{Answer}
+use Rattle.text.specs.Digits.{numberOf, digitsOf}
+use Rattle.text.specs.Newlines.{newline}
+use Rattle.text.specs.Frames.{part}
+
+abbrev pub answerDigits : Answer → List ℕ
+answerDigits a =
+    digitsOf 2 (a .refusal)
+    ++ digitsOf 2 (a .phase)
+    ++ digitsOf 2 (a .granted)
+    ++ digitsOf 2 (a .lines)
+    ++ digitsOf 2 (a .signals)
+    ++ digitsOf 2 (a .status)
+    ++ digitsOf 2 (a .cycles)
+    ++ digitsOf 4 (a .datum)
+
+abbrev pub answerLine : Answer → List ℕ
+answerLine a = answerDigits a ++ newline ∷ []
+
+-- bytes of an answer line
+abbrev pub answerLength : ℕ
+answerLength = 19
+
+-- an answer line read again
+abbrev pub answerIn : List ℕ → Answer
+answerIn line = record {
+  refusal = numberOf (part 0 2 line);
+  phase = numberOf (part 2 2 line);
+  granted = numberOf (part 4 2 line);
+  lines = numberOf (part 6 2 line);
+  signals = numberOf (part 8 2 line);
+  status = numberOf (part 10 2 line);
+  cycles = numberOf (part 12 2 line);
+  datum = numberOf (part 14 4 line);
+}
+
+-- what a place holds once the line is put at its front: a place that is too short is left alone
+abbrev pub printed : Answer → List ℕ → List ℕ
+printed a place = cond (leb answerLength (length place)) (sets place 0 (answerLine a)) place

@@ -1,0 +1,6 @@
+-- Read in this order: digits and numbers; the lines of a text; the two frames; the answer line; a text read line by line.
+pub mod Digits
+pub mod Newlines
+pub mod Frames
+pub mod AnswerLine
+pub mod Reading

@@ -1,0 +1,11 @@
+// Text as bytes: hexadecimal digits, the setup line, the event line and the answer line.
+mod digits;
+mod frames;
+mod printing;
+
+pub use frames::Line;
+pub use frames::SetupLine;
+pub use frames::line_end;
+pub use frames::next_line;
+pub use frames::setup_line;
+pub use printing::put_answer;
