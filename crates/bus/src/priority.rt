@@ -12,9 +12,12 @@ impl Bus {
     {
         let driven = self.driven;
         let mut lines: u8 = 0;
-        let mut n: u8 = 0;
-        while n < 16 {
-            lines = lines | counted(self.contenders, n, driven[n as usize]);
+        // The contenders from card n on, card n as card 0, so that no card beyond the highest contender is asked.
+        let mut left = self.contenders;
+        let mut n: usize = 0;
+        while 0 < left {
+            lines = lines | counted(left, 0, driven[n]);
+            left = left / 2;
             n += 1;
         }
         lines

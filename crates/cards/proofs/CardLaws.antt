@@ -1,16 +1,19 @@
 -- Sets of sixteen cards: the short tests of the code say the same as the definitions, which ask card by card.
-use Prim.Native.Nat.{ℕ, _<_, _^_}
+use Prim.Native.Nat.{ℕ, _+_, _/_, _^_, _<_, _≤_}
 use mathlib.Core.Path.{_≡_, refl, sym, ap, ap₂, _∙_}
 use mathlib.Core.Logic.{_⊎_, inl, inr}
 use mathlib.Core.Bool.{Bool, true, false, not, _||_, and-eq-true-iff, true≢false}
+use native.Mathlib.Nat.{le-dest, div-eq-of-lt, lt-of-lt-of-le, add-zero}
+use native.Mathlib.Decide.{decLt}
+use native.Mathlib.Omega.{arith}
 use lib.Dec.{eqb, ltb}
 use lib.Bits.{bitOr, or-lt}
-use lib.Pow.{pow-pos}
+use lib.Pow.{pow-pos, pow-mono, shr-shr}
 use borrow.Author.Tests.{ltb-true, lt-ltb, eqb-true, eq-eqb, not-true, not-false}
 use Rattle.words.specs.Bits.{bitAt}
 use Rattle.words.specs.Below.{allBelow}
 use Rattle.words.proofs.TestLaws.{true-or-false, tests-same, then-of, of-then}
-use Rattle.words.proofs.BitLaws.{bits-same, bit-above, bit-or}
+use Rattle.words.proofs.BitLaws.{bits-same, bit-above, bit-high, bit-or}
 use Rattle.words.proofs.BelowLaws.{all-at, all-of, some-not}
 use Rattle.cards.specs.Cards.{cardIn, someCard, isWithin}
 
@@ -102,3 +105,34 @@ none-in-empty n = go (true-or-false (cardIn 0 n))
     go : (cardIn 0 n ≡ true) ⊎ (cardIn 0 n ≡ false) → cardIn 0 n ≡ false
     go (inl c) = card-bit 0 n (card-below 0 n c) ∙ bit-above n 0 (pow-pos n)
     go (inr f) = f
+
+-- ---- What is left of a set from card n on, card n as card 0
+
+module _ (cards n : ℕ) {left : ℕ} (from : left ≡ cards / 2 ^ n) where
+  -- its first card
+  pub left-first : n < 16 → cardIn left 0 ≡ cardIn cards n
+  left-first h =
+      ap (λ (x : ℕ). bitAt x 0) from ∙ bit-high cards n 0 ∙ ap (bitAt cards) (add-zero n) ∙ sym (card-bit cards n h)
+
+  -- what is left after that card
+  pub left-next : left / 2 ≡ cards / 2 ^ (n + 1)
+  left-next = ap (λ (x : ℕ). x / 2) from ∙ shr-shr cards n 1
+
+  -- where some card is left, n is one of the sixteen
+  pub left-some : cards < 2 ^ 16 → 0 < left → n < 16
+  left-some h some = go (decLt n 16)
+    where
+      go : Dec (n < 16) → n < 16
+      go (yes below) = below
+      go (no beyond) = omega (arith, from ∙ div-eq-of-lt (lt-of-lt-of-le h (pow-mono {i = 16} {j = n} (omega arith))))
+
+  -- where none is, no card from n on is in the set
+  pub left-none : left ≤ 0 → (k : ℕ) → n ≤ k → k < 16 → cardIn cards k ≡ false
+  left-none none k l h =
+      let i = le-dest l in
+      let empty : left ≡ 0 = omega arith in
+      card-bit cards k h
+      ∙ ap (bitAt cards) (sym (i .1))
+      ∙ sym (bit-high cards n (i .0))
+      ∙ ap (λ (x : ℕ). bitAt x (i .0)) (sym from ∙ empty)
+      ∙ bit-above (i .0) 0 (pow-pos (i .0))

@@ -4,6 +4,8 @@ mod cycles;
 mod steps;
 
 pub use answers::Answer;
+pub use answers::answer_with;
+pub use answers::bare;
 pub use steps::Stepped;
 pub use steps::sound_step;
 pub use steps::step;

@@ -8,7 +8,7 @@ use native.Mathlib.Numerals.{add-one}
 use native.Mathlib.Omega.{arith}
 use lib.Dec.{eqb}
 use lib.Pow.{pow-pos}
-use lib.Bits.{bitOr, or-shr, or-lt, or-comm}
+use lib.Bits.{bitOr, or-shr, or-lt, or-comm, or-zero-r}
 use borrow.Author.Tests.{eqb-true}
 use Rattle.words.specs.Bits.{bitAt}
 use Rattle.words.specs.Below.{allBelow, orBelow}
@@ -114,6 +114,19 @@ unfolding orBelow
 or-below-lt w f zero each = pow-pos w
 or-below-lt w f (suc n) each =
     or-lt w (orBelow f n) (f n) (or-below-lt w f n (λ k h. each k (le-step h))) (each n (lt-suc-self n))
+
+-- where all from n on are 0, the OR of those below n is the OR of all
+pub or-rest : (f : ℕ → ℕ) (n m : ℕ) → n ≤ m → ((k : ℕ) → n ≤ k → k < m → f k ≡ 0) → orBelow f n ≡ orBelow f m
+unfolding orBelow
+or-rest f n zero h each = at-bound (orBelow f) refl h (omega arith)
+or-rest f n (suc m) h each =
+    ⊎-elim
+    (λ (q : n ≡ suc m). ap (orBelow f) q)
+    (λ l.
+    or-rest f n m (le-of-suc-le-suc l) (λ k a b. each k a (le-step b))
+    ∙ sym (or-zero-r (orBelow f m))
+    ∙ ap (bitOr (orBelow f m)) (sym (each m (le-of-suc-le-suc l) (lt-suc-self m))))
+    (eq-or-lt-of-le h)
 
 -- numbers that agree from place j up, one by one, have ORs that agree there
 pub or-below-agree : (j : ℕ) (f g : ℕ → ℕ) (n : ℕ) → ((k : ℕ) → k < n → f k / 2 ^ j ≡ g k / 2 ^ j) → orBelow f n / 2 ^ j ≡ orBelow g n / 2 ^ j

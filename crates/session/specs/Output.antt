@@ -1,0 +1,13 @@
+-- The whole output for the whole input: a fold over the lines of the text.
+use Prim.Native.Nat.{ℕ}
+use mathlib.Core.List.{List}
+use Rattle.text.specs.Newlines.{linesOf}
+use Rattle.text.specs.Reading.{answersTo}
+use Rattle.session.specs.World.{World, says, turns, freshWorld}
+
+-- what is answered to lines from some state on
+abbrev pub answers : World → List (List ℕ) → List ℕ
+answers w lines = answersTo says turns w lines
+
+abbrev pub output : List ℕ → List ℕ
+output text = answers freshWorld (linesOf text)

@@ -1,0 +1,84 @@
+-- What the program does with a line (01, "The program and one whole run"): the first sets the bus up, each later one is an event.
+use Prim.Native.Nat.{ℕ}
+use mathlib.Core.Bool.{cond}
+use mathlib.Core.List.{List, []}
+use lib.Dec.{eqb}
+use lib.ListN.{replicate}
+use Rattle.phases.specs.Signal.{signalsIn}
+use Rattle.memory.specs.Cycles.{nothing}
+use Rattle.bus.specs.Refusal as Refusal
+use Rattle.bus.specs.Setup.{emptyBus, setupOf}
+use Rattle.bus.specs.declared.state.Bus.{Bus}
+use Rattle.bus.specs.declared.state.SetupAnswer.{SetupAnswer}
+use Rattle.events.specs.Machine.{Machine, machine}
+use Rattle.events.specs.Answers.{answerWith, bare}
+use Rattle.events.specs.Step.{after, answerTo}
+use Rattle.events.specs.declared.answers.Answer.{Answer}
+use Rattle.text.specs.Digits.{isDigits}
+use Rattle.text.specs.Frames.{eventDigits, eventIn, setupIn}
+use Rattle.text.specs.AnswerLine.{answerLine}
+use Rattle.text.specs.declared.frames.SetupLine.{SetupLine}
+use Rattle.session.specs.declared.state.Stage.{Stage, Awaiting, Running, Ended}
+use Rattle.session.specs.declared.state.Session.{Session}
+
+-- a session with its memory and its ports
+pub record World : Type 0 where
+  pub session : Session
+  pub memory : List ℕ
+  pub ports : List ℕ
+
+abbrev pub world : Stage → Bus → List ℕ → List ℕ → World
+world stage bus memory ports = record { session = record { stage = stage; bus = bus }; memory = memory; ports = ports }
+
+abbrev pub machineOf : World → Machine
+machineOf w = machine (w .session .bus) (w .memory) (w .ports)
+
+-- ---- The setup line
+
+-- a bad line is refused as such, and otherwise setup decides; either refusal leaves an empty chassis
+abbrev pub setUpBy : SetupLine → SetupAnswer
+setUpBy line = cond (eqb (line .refusal) Refusal.accepted) (setupOf (line .fitted) (line .pages)) (record { answer = line .refusal; bus = emptyBus })
+
+abbrev pub setupAnswer : SetupAnswer → Answer
+setupAnswer given =
+    cond (eqb (given .answer) Refusal.accepted) (answerWith Refusal.accepted (given .bus) (signalsIn (given .bus .phase)) 0 nothing)
+    (bare (given .answer))
+
+abbrev pub stageAfter : SetupAnswer → Stage
+stageAfter given = cond (eqb (given .answer) Refusal.accepted) Running Ended
+
+-- ---- Event lines: 0C for a bad one, and otherwise the step of `events`
+
+abbrev pub eventAnswer : Machine → List ℕ → Answer
+eventAnswer m line = cond (isDigits eventDigits line) (answerTo m (eventIn line)) (bare Refusal.badLine)
+
+abbrev pub afterEvent : Machine → List ℕ → Machine
+afterEvent m line = cond (isDigits eventDigits line) (after m (eventIn line)) m
+
+-- ---- Any line
+
+unfoldable pub saysBy : Stage → World → List ℕ → List ℕ
+saysBy Awaiting w line = answerLine (setupAnswer (setUpBy (setupIn line)))
+saysBy Running w line = answerLine (eventAnswer (machineOf w) line)
+saysBy Ended w line = []
+
+unfoldable pub turnsBy : Stage → World → List ℕ → World
+turnsBy Awaiting w line = world (stageAfter (setUpBy (setupIn line))) (setUpBy (setupIn line) .bus) (w .memory) (w .ports)
+turnsBy Running w line =
+    world Running (afterEvent (machineOf w) line .bus) (afterEvent (machineOf w) line .memory) (afterEvent (machineOf w) line .ports)
+turnsBy Ended w line = w
+
+-- the bytes that are answered to a line
+abbrev pub says : World → List ℕ → List ℕ
+says w line = saysBy (w .session .stage) w line
+
+-- what a line leads to
+abbrev pub turns : World → List ℕ → World
+turns w line = turnsBy (w .session .stage) w line
+
+-- before the first line: an empty chassis, memory and ports at zero
+abbrev pub fresh : Session
+fresh = record { stage = Awaiting; bus = emptyBus }
+
+unfoldable pub freshWorld : World
+freshWorld = record { session = fresh; memory = replicate 0x10000 0; ports = replicate 0x100 0 }
