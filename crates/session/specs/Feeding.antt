@@ -1,19 +1,24 @@
 -- A call that is given the text read so far: it answers the lines that have ended, as many as there is room for, and holds the rest.
-use Prim.Native.Nat.{ℕ, _/_, min}
-use mathlib.Core.Bool.{cond, _||_}
+use Prim.Native.Nat.{ℕ, _+_, _/_, min}
+use mathlib.Core.Bool.{Bool, cond, _||_, _&&_}
 use mathlib.Core.List.{List, [], _++_}
 use lib.Dec.{eqb, ltb}
-use lib.ListN.{length, take, drop}
+use lib.ListN.{length, take, drop, set}
 use lib.Seq.{sets}
 use Rattle.bus.specs.Refusal as Refusal
 use Rattle.bus.specs.Sense.{makesSense}
+use Rattle.bus.specs.declared.state.Bus.{Bus}
 use Rattle.judgement.specs.Refusals.{hasWrongBuffers}
+use Rattle.text.specs.Newlines.{newline}
 use Rattle.text.specs.AnswerLine.{answerLength}
 use Rattle.text.specs.Reading.{Taken, nothingTaken, takenOff, heldOf}
 use Rattle.session.specs.World.{World, says, turns}
-use Rattle.session.specs.declared.state.Stage.{Stage, Awaiting, Running, Ended}
+use Rattle.session.specs.declared.state.Stage.{Stage}
+use Rattle.session.specs.declared.state.Stage.the-variants.{Awaiting, Running, Ended}
 use Rattle.session.specs.declared.state.Session.{Session}
 use Rattle.session.specs.declared.feeding.Fed.{Fed}
+use Rattle.session.specs.declared.taking.TakenLines.{TakenLines}
+use Rattle.session.specs.declared.taking.EventLine.{EventLine}
 
 -- the lines that a call may answer, where there is room for so many answer lines: setup's alone, or events, or none once the run has ended
 unfoldable pub linesFor : Stage → ℕ → ℕ
@@ -25,32 +30,80 @@ linesFor Ended room = 0
 abbrev pub takes : ℕ → World → List ℕ → Taken World
 takes size w text = takenOff says turns (linesFor (w .session .stage) (size / answerLength)) w text
 
--- A call is refused as an event would be for its buffers (here the text too may have been filled no further than it reaches) and for a
--- senseless state.
-abbrev pub feedRefusal : World → List ℕ → ℕ → ℕ
-feedRefusal w text filled =
-    cond (hasWrongBuffers (w .memory) (w .ports) || ltb (length text) filled) Refusal.wrongBuffers
-    (cond (makesSense (w .session .bus)) Refusal.accepted Refusal.senseless)
+abbrev pub worldOf : Session → List ℕ → List ℕ → World
+worldOf session memory ports = record { session = session; memory = memory; ports = ports }
+
+-- what is told of the lines taken
+abbrev pub linesTaken : Taken World → TakenLines
+linesTaken t = record { session = t .state .session; used = t .used; written = length (t .said) }
+
+abbrev pub eventTaken : Taken World → EventLine
+eventTaken t = record { bus = t .state .session .bus; used = t .used }
+
+-- A call is refused as an event would be, for its buffers and for a senseless state; and no text is filled further than it reaches.
+abbrev pub feedRefusal : Bus → List ℕ → List ℕ → List ℕ → ℕ → ℕ
+feedRefusal bus memory ports text filled =
+    cond (hasWrongBuffers memory ports || ltb (length text) filled) Refusal.wrongBuffers (cond (makesSense bus) Refusal.accepted Refusal.senseless)
+
+-- ---- What a call tells, and what it leaves: `text` holds `filled` bytes, `out` is the place for the answers
+
+-- a refused call does nothing
+abbrev pub refusedFed : ℕ → Session → ℕ → Fed
+refusedFed refusal session filled = record { refusal = refusal; session = session; held = filled; written = 0 }
+
+abbrev pub takenFed : Taken World → Fed
+takenFed t =
+    record { refusal = Refusal.accepted; session = t .state .session; held = length (heldOf (t .rest)); written = length (t .said) }
+
+-- what is held of a rest stands at the front of the text
+abbrev pub heldIn : List ℕ → List ℕ → List ℕ
+heldIn text rest = heldOf rest ++ drop (length (heldOf rest)) text
 
 -- by whether the call is refused
-abbrev pub unlessRefused : {A : Type 0} → World → List ℕ → ℕ → A → A → A
-unlessRefused w text filled taken given = cond (eqb (feedRefusal w text filled) Refusal.accepted) taken given
+abbrev pub unlessRefused : {A : Type 0} → World → List ℕ → ℕ → A → (ℕ → A) → A
+unlessRefused w text filled taken refused =
+    cond (eqb (feedRefusal (w .session .bus) (w .memory) (w .ports) text filled) Refusal.accepted) taken
+    (refused (feedRefusal (w .session .bus) (w .memory) (w .ports) text filled))
 
--- The result, and what is left in each buffer: `text` holds `filled` bytes, `out` is the place for the answers.
 abbrev pub fedOf : World → List ℕ → ℕ → List ℕ → Fed
 fedOf w text filled out =
-    let t = takes (length out) w (take filled text) in
-    unlessRefused w text filled
-    (record { refusal = Refusal.accepted; session = t .state .session; held = length (heldOf (t .rest)); written = length (t .said) })
-    (record { refusal = feedRefusal w text filled; session = w .session; held = filled; written = 0 })
+    unlessRefused w text filled (takenFed (takes (length out) w (take filled text))) (λ refusal. refusedFed refusal (w .session) filled)
 
 abbrev pub worldLeft : World → List ℕ → ℕ → List ℕ → World
-worldLeft w text filled out = unlessRefused w text filled (takes (length out) w (take filled text) .state) w
+worldLeft w text filled out = unlessRefused w text filled (takes (length out) w (take filled text) .state) (λ refusal. w)
 
 abbrev pub outLeft : World → List ℕ → ℕ → List ℕ → List ℕ
-outLeft w text filled out = unlessRefused w text filled (sets out 0 (takes (length out) w (take filled text) .said)) out
+outLeft w text filled out = unlessRefused w text filled (sets out 0 (takes (length out) w (take filled text) .said)) (λ refusal. out)
 
--- what is held stands at the front of the text
 abbrev pub textLeft : World → List ℕ → ℕ → List ℕ → List ℕ
-textLeft w text filled out =
-    let held = heldOf (takes (length out) w (take filled text) .rest) in unlessRefused w text filled (held ++ drop (length held) text) text
+textLeft w text filled out = unlessRefused w text filled (heldIn text (takes (length out) w (take filled text) .rest)) (λ refusal. text)
+
+-- ---- At the end of the input
+
+-- It ends a line that is held, where there is one and room for a newline.
+abbrev pub isEnded : List ℕ → ℕ → Bool
+isEnded text held = ltb 0 held && ltb held (length text)
+
+abbrev pub endedText : List ℕ → ℕ → List ℕ
+endedText text held = cond (isEnded text held) (set text held newline) text
+
+abbrev pub endedAt : List ℕ → ℕ → ℕ
+endedAt text held = cond (isEnded text held) (held + 1) held
+
+-- what is taken then
+abbrev pub takesLast : ℕ → World → List ℕ → ℕ → Taken World
+takesLast size w text held = takes size w (take (endedAt text held) (endedText text held))
+
+abbrev pub finishedOf : World → List ℕ → ℕ → List ℕ → Fed
+finishedOf w text held out =
+    unlessRefused w text held (takenFed (takesLast (length out) w text held)) (λ refusal. refusedFed refusal (w .session) held)
+
+abbrev pub finishedWorld : World → List ℕ → ℕ → List ℕ → World
+finishedWorld w text held out = unlessRefused w text held (takesLast (length out) w text held .state) (λ refusal. w)
+
+abbrev pub finishedOut : World → List ℕ → ℕ → List ℕ → List ℕ
+finishedOut w text held out = unlessRefused w text held (sets out 0 (takesLast (length out) w text held .said)) (λ refusal. out)
+
+abbrev pub finishedText : World → List ℕ → ℕ → List ℕ → List ℕ
+finishedText w text held out =
+    unlessRefused w text held (heldIn (endedText text held) (takesLast (length out) w text held .rest)) (λ refusal. text)

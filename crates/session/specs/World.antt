@@ -18,7 +18,8 @@ use Rattle.text.specs.Digits.{isDigits}
 use Rattle.text.specs.Frames.{eventDigits, eventIn, setupIn}
 use Rattle.text.specs.AnswerLine.{answerLine}
 use Rattle.text.specs.declared.frames.SetupLine.{SetupLine}
-use Rattle.session.specs.declared.state.Stage.{Stage, Awaiting, Running, Ended}
+use Rattle.session.specs.declared.state.Stage.{Stage}
+use Rattle.session.specs.declared.state.Stage.the-variants.{Awaiting, Running, Ended}
 use Rattle.session.specs.declared.state.Session.{Session}
 
 -- a session with its memory and its ports
@@ -35,9 +36,13 @@ machineOf w = machine (w .session .bus) (w .memory) (w .ports)
 
 -- ---- The setup line
 
--- a bad line is refused as such, and otherwise setup decides; either refusal leaves an empty chassis
+-- a refused setup leaves an empty chassis
+abbrev pub refusedAs : ℕ → SetupAnswer
+refusedAs refusal = record { answer = refusal; bus = emptyBus }
+
+-- a bad line is refused as such, and otherwise setup decides
 abbrev pub setUpBy : SetupLine → SetupAnswer
-setUpBy line = cond (eqb (line .refusal) Refusal.accepted) (setupOf (line .fitted) (line .pages)) (record { answer = line .refusal; bus = emptyBus })
+setUpBy line = cond (eqb (line .refusal) Refusal.accepted) (setupOf (line .fitted) (line .pages)) (refusedAs (line .refusal))
 
 abbrev pub setupAnswer : SetupAnswer → Answer
 setupAnswer given =

@@ -1,7 +1,7 @@
 // The setup line.
 ghost use mathlib.Core.Path.{_≡_};
 ghost use Rattle.text.specs.Frames.{setupIn};
-ghost use Rattle.session.specs.World.{setUpBy, setupAnswer, stageAfter};
+ghost use Rattle.session.specs.World.{refusedAs, setUpBy, setupAnswer, stageAfter};
 use crate::state::Session;
 use crate::state::Stage;
 use bus::Bus;
@@ -27,11 +27,14 @@ pub fn set_up(line: &[u8]) -> SetupAnswer
     }
 }
 
-fn refused(refusal: u8) -> SetupAnswer {
+fn refused(refusal: u8) -> SetupAnswer
+    ensures { λ r. ⌜ r ≡ refusedAs refusal ⌝ }
+{
     let empty = Bus::setup(0, [0; 16]);
+    let bus = empty.bus;
     SetupAnswer {
         answer: refusal,
-        bus: empty.bus,
+        bus: bus,
     }
 }
 
@@ -41,7 +44,16 @@ pub fn setup_answer(given: SetupAnswer) -> Answer
 {
     let bus = given.bus;
     if given.answer == ACCEPTED {
-        answer_with(ACCEPTED, bus, signals(bus.phase), 0, Moved { datum: 0, cycles: 0 })
+        answer_with(
+            ACCEPTED,
+            bus,
+            signals(bus.phase),
+            0,
+            Moved {
+                datum: 0,
+                cycles: 0,
+            },
+        )
     } else {
         bare(given.answer)
     }

@@ -22,9 +22,10 @@ impl Session {
         ensures { λ r. ⌜ r ≡ fresh ⌝ }
     {
         let empty = Bus::setup(0, [0; 16]);
+        let bus = empty.bus;
         Session {
             stage: Stage::Awaiting,
-            bus: empty.bus,
+            bus: bus,
         }
     }
 }

@@ -1,16 +1,18 @@
 -- Digits without a branch; numbers digit by digit.
 use mathlib.Core.Path.{_≡_, refl, sym, ap, _∙_}
 use mathlib.Core.Logic.{_⊎_, inl, inr, ⊎-elim}
-use mathlib.Core.Bool.{Bool, true, false, cond, _&&_, false≢true}
+use mathlib.Core.Bool.{Bool, true, false, cond, not, _&&_, _||_, false≢true}
 use mathlib.Core.List.{List, [], _∷_, _++_, map, map-append}
-use Prim.Native.Nat.{ℕ, suc, _+_, _*_, _-_, _/_, _%_, _<_, _≤_}
+use Prim.Native.Nat.{ℕ, suc, _+_, _*_, _-_, _/_, _%_, _^_, _<_, _≤_}
 use native.Mathlib.Omega.{arith}
-use lib.Dec.{leb}
+use lib.Dec.{eqb, leb, ltb}
 use lib.ListN.{length, getD, take, drop, set, length-drop}
 use lib.Seq.{drop-cons, getD-drop, take-suc, take-suc-set, sets}
-use borrow.Author.Tests.{leb-true, leb-false, le-leb, lt-leb}
+use borrow.Author.Tests.{ltb-true, ltb-false, leb-true, leb-false, le-leb, lt-leb}
+use Rattle.words.specs.Below.{allBelow}
 use Rattle.words.specs.Among.{everyListed}
-use Rattle.words.proofs.TestLaws.{true-or-false, either-of, then-pick, else-pick}
+use Rattle.words.proofs.BelowLaws.{same-tests-below}
+use Rattle.words.proofs.TestLaws.{true-or-false, either-of, neither-of, then-pick, else-pick}
 use Rattle.words.proofs.ListLaws.{every-at}
 use Rattle.text.specs.Digits.{isDigit, valueOf, digitOf, numberAfter, numberOf, digitsOf}
 use Rattle.text.specs.Frames.{part}
@@ -145,3 +147,36 @@ page-next line pages i h size whole so =
     ∙ ap (λ (b : ℕ). map valueOf (part 4 i line) ++ valueOf b ∷ []) (sym (getD-drop 4 line i 0))
     ∙ sym (map-append valueOf (part 4 i line) (getD (drop 4 line) i 0 ∷ []))
     ∙ ap (map valueOf) (sym (take-suc (drop 4 line) i 0 (omega (arith, length-drop 4 line, whole, h))))
+
+-- ---- Which bytes are digits, by a bit for each
+
+each-bit : allBelow (λ k. cond (eqb (0x7E03FF / 2 ^ k % 2) 1) (isDigit (0x30 + k)) (not (isDigit (0x30 + k)))) 23 ≡ true
+unfolding allBelow
+each-bit = refl
+
+pub digit-bit : (b : ℕ) → 0x30 ≤ b → b ≤ 0x46 → eqb (0x7E03FF / 2 ^ (b - 0x30) % 2) 1 ≡ isDigit b
+digit-bit b low high =
+    let place : 0x30 + (b - 0x30) ≡ b = omega (arith, low) in
+    same-tests-below (λ k. eqb (0x7E03FF / 2 ^ k % 2) 1) (λ k. isDigit (0x30 + k)) 23 each-bit (b - 0x30) (omega (arith, low, high))
+    ∙ ap (λ (k : ℕ). isDigit k) place
+
+-- the code asks first whether a byte is among those
+pub within : (b : ℕ) → (ltb b 0x30 || ltb 0x46 b) ≡ false → (0x30 ≤ b) × (b ≤ 0x46)
+within b e = let h = neither-of (ltb b 0x30) (ltb 0x46 b) e in (ltb-false b 0x30 (h .0), ltb-false 0x46 b (h .1))
+
+pub outside : (b : ℕ) → (ltb b 0x30 || ltb 0x46 b) ≡ true → isDigit b ≡ false
+outside b far =
+    ⊎-elim
+    (λ (is : isDigit b ≡ true).
+    absurd (⊎-elim
+    (λ (below : ltb b 0x30 ≡ true). not-both below (⊎-elim (λ low. low .0) (λ high. omega (arith, high .0)) (digit-kinds b is)))
+    (λ (above : ltb 0x46 b ≡ true). not-above above (⊎-elim (λ low. omega (arith, low .1)) (λ high. high .1) (digit-kinds b is)))
+    (either-of (ltb b 0x30) (ltb 0x46 b) far)))
+    (λ none. none)
+    (true-or-false (isDigit b))
+  where
+    not-both : ltb b 0x30 ≡ true → 0x30 ≤ b → ⊥
+    not-both below h = omega (arith, ltb-true b 0x30 below, h)
+
+    not-above : ltb 0x46 b ≡ true → b ≤ 0x46 → ⊥
+    not-above above h = omega (arith, ltb-true 0x46 b above, h)

@@ -5,10 +5,17 @@ ghost use Prim.Native.Nat.{_%_};
 ghost use Rattle.words.specs.Among.{everyListed};
 ghost use Rattle.text.specs.Digits.{isDigit, valueOf, digitOf};
 
+// From the byte 0 on to the byte F, a one for each that is a digit.
+const DIGITS: u32 = 0x7E03FF;
+
 pub fn is_digit(b: u8) -> bool
     ensures { λ r. ⌜ r ≡ isDigit b ⌝ }
 {
-    ((0x30 <= b) & (b <= 0x39)) | ((0x41 <= b) & (b <= 0x46))
+    if (b < 0x30) | (0x46 < b) {
+        false
+    } else {
+        (DIGITS >> (b - 0x30)) % 2 == 1
+    }
 }
 
 // A letter's low half is 9 short of its value.

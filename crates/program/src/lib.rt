@@ -1,0 +1,137 @@
+// The text program: it reads standard input, hands the session what came, and writes the answers to standard output.
+use libc::STDIN_FILENO;
+use libc::STDOUT_FILENO;
+use session::Fed;
+use session::Session;
+use session::Stage;
+use session::feed;
+use session::finish;
+
+// How the program goes on.
+enum Next {
+    Read,
+    // The input has ended.
+    Finish,
+    // Reading or writing failed, or the run is over.
+    Stop,
+}
+
+struct Turn {
+    next: Next,
+    session: Session,
+    held: usize,
+}
+
+// What is in the text after a read behind what is held.
+struct Filled {
+    failed: bool,
+    size: usize,
+}
+
+pub fn run() {
+    let mut text = [0u8; 32768];
+    let mut out = io::large_buffer();
+    let mut memory = [0u8; 65536];
+    let mut ports = [0u8; 256];
+    turns(&mut text, &mut out, &mut memory, &mut ports);
+}
+
+// A proved loop ends, and no input is as long as this one may go on.
+fn turns(text: &mut [u8], out: &mut [u8], memory: &mut [u8], ports: &mut [u8]) {
+    let mut left = u64::MAX;
+    let mut session = Session::fresh();
+    let mut held: usize = 0;
+    while 0 < left {
+        let at = turn(session, held, text, out, memory, ports);
+        session = at.session;
+        held = at.held;
+        let next = at.next;
+        match next {
+            Next::Read => {
+                left -= 1;
+            }
+            Next::Finish => {
+                last(session, held, text, out, memory, ports);
+                left = 0;
+            }
+            Next::Stop => {
+                left = 0;
+            }
+        }
+    }
+}
+
+fn turn(
+    session: Session,
+    held: usize,
+    text: &mut [u8],
+    out: &mut [u8],
+    memory: &mut [u8],
+    ports: &mut [u8],
+) -> Turn {
+    let filled = read_behind(text, held);
+    let fed = feed(session, text, filled.size, out, memory, ports);
+    let is_written = write_front(out, fed.written);
+    let next = fed.session;
+    Turn {
+        next: after(filled, held, fed, is_written),
+        session: next,
+        held: fed.held,
+    }
+}
+
+fn after(filled: Filled, held: usize, fed: Fed, is_written: bool) -> Next {
+    let session = fed.session;
+    let stage = session.stage;
+    if filled.failed | !is_written | has_ended(stage) {
+        Next::Stop
+    } else if (filled.size == held) & (fed.written == 0) {
+        Next::Finish
+    } else {
+        Next::Read
+    }
+}
+
+fn has_ended(stage: Stage) -> bool {
+    match stage {
+        Stage::Awaiting => false,
+        Stage::Running => false,
+        Stage::Ended => true,
+    }
+}
+
+// The unended last line.
+fn last(
+    session: Session,
+    held: usize,
+    text: &mut [u8],
+    out: &mut [u8],
+    memory: &mut [u8],
+    ports: &mut [u8],
+) {
+    let fed = finish(session, text, held, out, memory, ports);
+    write_front(out, fed.written);
+}
+
+fn read_behind(text: &mut [u8], held: usize) -> Filled {
+    if held < text.len() {
+        let got = libc::read(STDIN_FILENO, &mut text[held..]);
+        Filled {
+            failed: got < 0,
+            size: held + io::count(got, &text[held..]),
+        }
+    } else {
+        Filled {
+            failed: false,
+            size: held,
+        }
+    }
+}
+
+fn write_front(out: &[u8], written: usize) -> bool {
+    if written <= out.len() {
+        io::write_all(STDOUT_FILENO, &out[..written])
+    } else {
+        false
+    }
+}

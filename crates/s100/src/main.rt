@@ -1,0 +1,4 @@
+// The text program.
+fn main() {
+    program::run();
+}
