@@ -12,7 +12,9 @@ use borrow.Author.Tests.{eqb-true, eq-eqb, ne-eqb}
 use Rattle.words.specs.Among.{everyListed}
 use Rattle.words.proofs.TestLaws.{true-or-false, tests-same}
 use Rattle.words.proofs.ListLaws.{every-at}
+use Rattle.judgement.specs.declared.event.Event.{Event}
 use Rattle.text.specs.declared.frames.Line.{Line}
+use Rattle.text.specs.declared.frames.Line.the-variants.{Frame, Bad, Unended}
 use Rattle.text.specs.Digits.{isDigit, isDigits}
 use Rattle.text.specs.Newlines.{newline, hasNewline, firstLine, restOf}
 use Rattle.text.specs.Frames.{eventDigits, eventIn, nextLine}
@@ -89,3 +91,56 @@ bad-next text e shorter =
 pub unended-next : (text : List ℕ) → length text ≤ length (firstLine text) → Line.Unended ≡ nextLine text
 unended-next text whole =
     ⊎-elim (λ has. absurd (omega (arith, whole, line-within text has))) (λ has. rw has refl) (true-or-false (hasNewline text))
+
+-- ---- And back: what the next line says of the text
+
+-- the event of a frame, or else another
+abbrev eventFrom : Event → Line → Event
+eventFrom other (Frame e) = e
+eventFrom other (Bad n) = other
+eventFrom other Unended = other
+
+-- the size of a bad line, and by it which way a text begins
+abbrev sizeFrom : Line → ℕ
+sizeFrom (Frame e) = 0
+sizeFrom (Bad n) = suc (suc n)
+sizeFrom Unended = 1
+
+-- the next line by the two tests
+next-by : (text : List ℕ) (has right : Bool) → hasNewline text ≡ has → isDigits eventDigits (firstLine text) ≡ right
+    → nextLine text ≡ cond has (cond right (Line.Frame (eventIn (firstLine text))) (Line.Bad (length (firstLine text)))) Line.Unended
+next-by text has right h r = rw (h, r) refl
+
+pub record Framed (text : List ℕ) (event : Event) : Type 0 where
+  pub has : hasNewline text ≡ true
+  pub right : isDigits eventDigits (firstLine text) ≡ true
+  pub same : event ≡ eventIn (firstLine text)
+
+pub framed : (text : List ℕ) (event : Event) → Line.Frame event ≡ nextLine text → Framed text event
+framed text event e = go (hasNewline text) refl (isDigits eventDigits (firstLine text)) refl
+  where
+    go : (has : Bool) → hasNewline text ≡ has → (right : Bool) → isDigits eventDigits (firstLine text) ≡ right → Framed text event
+    go true h true r = record { has = h; right = r; same = ap (eventFrom event) (e ∙ next-by text true true h r) }
+    go true h false r = absurd (omega (arith, ap sizeFrom (e ∙ next-by text true false h r)))
+    go false h right r = absurd (omega (arith, ap sizeFrom (e ∙ next-by text false right h r)))
+
+pub record Spoilt (text : List ℕ) (size : ℕ) : Type 0 where
+  pub has : hasNewline text ≡ true
+  pub wrong : isDigits eventDigits (firstLine text) ≡ false
+  pub same : size ≡ length (firstLine text)
+
+pub spoilt : (text : List ℕ) (size : ℕ) → Line.Bad size ≡ nextLine text → Spoilt text size
+spoilt text size e = go (hasNewline text) refl (isDigits eventDigits (firstLine text)) refl
+  where
+    go : (has : Bool) → hasNewline text ≡ has → (right : Bool) → isDigits eventDigits (firstLine text) ≡ right → Spoilt text size
+    go true h true r = absurd (omega (arith, ap sizeFrom (e ∙ next-by text true true h r)))
+    go true h false r = record { has = h; wrong = r; same = omega (arith, ap sizeFrom (e ∙ next-by text true false h r)) }
+    go false h right r = absurd (omega (arith, ap sizeFrom (e ∙ next-by text false right h r)))
+
+pub not-ended : (text : List ℕ) → Line.Unended ≡ nextLine text → hasNewline text ≡ false
+not-ended text e = go (hasNewline text) refl (isDigits eventDigits (firstLine text)) refl
+  where
+    go : (has : Bool) → hasNewline text ≡ has → (right : Bool) → isDigits eventDigits (firstLine text) ≡ right → hasNewline text ≡ false
+    go true h true r = absurd (omega (arith, ap sizeFrom (e ∙ next-by text true true h r)))
+    go true h false r = absurd (omega (arith, ap sizeFrom (e ∙ next-by text true false h r)))
+    go false h right r = h

@@ -2,3 +2,4 @@
 pub mod DigitLaws
 pub mod NewlineLaws
 pub mod FrameLaws
+pub mod ReadingLaws

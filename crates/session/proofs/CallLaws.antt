@@ -1,0 +1,74 @@
+-- What the smaller calls rest on: an empty chassis, what is held, and when a call is refused.
+use mathlib.Core.Path.{_≡_, refl, sym, ap, subst, _∙_}
+use mathlib.Core.Bool.{Bool, true, false, cond, not, _&&_, _||_}
+use mathlib.Core.List.{List, _++_}
+use Prim.Native.Nat.{ℕ, suc, _+_, _<_, _≤_, min}
+use native.Mathlib.Omega.{arith}
+use lib.Dec.{eqb, ltb}
+use lib.ListN.{length, getD, take, drop, set, replicate, length-take, length-drop}
+use lib.Seq.{take-all, length-take-le, paste, paste-suc, getD-drop, getD-append-add}
+use borrow.Author.Tests.{eqb-true, eq-eqb, ltb-true, ltb-false}
+use Rattle.bus.specs.Sense.{pagesKnown}
+use Rattle.bus.specs.State.{freeBus}
+use Rattle.bus.specs.Setup.{emptyBus, setupOf}
+use Rattle.bus.specs.declared.state.SetupAnswer.{SetupAnswer}
+use Rattle.text.specs.Newlines.{hasNewline, firstLine}
+use Rattle.text.specs.Reading.{heldOf}
+use Rattle.text.proofs.DigitLaws.{both-of}
+use Rattle.text.proofs.NewlineLaws.{unended, line-within}
+use Rattle.words.proofs.TestLaws.{true-or-false, then-pick, else-pick}
+use mathlib.Core.Logic.{⊎-elim}
+
+-- setup of nothing is an empty chassis, whatever it answers
+pub nothing-set-up : setupOf 0 (replicate 16 0) .bus ≡ emptyBus
+nothing-set-up = go (pagesKnown (replicate 16 0))
+  where
+    go : (known : Bool) → (cond {A = SetupAnswer} known (record { answer = 0; bus = freeBus 0 (replicate 16 0) }) (record { answer = 11; bus = emptyBus })) .bus ≡ emptyBus
+    go true = refl
+    go false = refl
+
+-- ---- What is held
+
+-- the first line is the whole exactly where there is no newline
+pub whole-unended : (rest : List ℕ) → length (firstLine rest) ≡ length rest → hasNewline rest ≡ false
+whole-unended rest e = ⊎-elim (λ has. absurd (omega (arith, e, line-within rest has))) (λ none. none) (true-or-false (hasNewline rest))
+
+-- how many bytes are held, as the code finds it
+pub held-count-cut : (rest : List ℕ) (end : ℕ) → end ≡ length (firstLine rest) → (eqb end (length rest) && ltb 21 (length rest)) ≡ true → 21 ≡ length (heldOf rest)
+held-count-cut rest end e cut =
+    let both = both-of (eqb end (length rest)) (ltb 21 (length rest)) cut in
+    rw (whole-unended rest (sym e ∙ eqb-true end (length rest) (both .0)))
+    (sym (length-take-le 21 rest (omega (arith, ltb-true 21 (length rest) (both .1)))))
+
+pub held-count-whole : (rest : List ℕ) (end : ℕ) → end ≡ length (firstLine rest) → (eqb end (length rest) && ltb 21 (length rest)) ≡ false → length rest ≡ length (heldOf rest)
+held-count-whole rest end e whole =
+    ⊎-elim
+    (λ has. rw has refl)
+    (λ (none : hasNewline rest ≡ false). let short : ltb 21 (length rest) ≡ false = subst (λ (t : Bool). (t && ltb 21 (length rest)) ≡ false) (eq-eqb end (length rest) (e ∙ ap length (unended rest none))) whole in
+    rw none (ap length (sym (take-all 21 rest (ltb-false 21 (length rest) short)))))
+    (true-or-false (hasNewline rest))
+
+-- the byte that is brought down next is still where it was
+pub brought : (text : List ℕ) (from i : ℕ) → from + i < length text → getD (paste text 0 (drop from text) i) (from + i) 0 ≡ getD (drop from text) i 0
+brought text from i h =
+    let front = take i (drop from text) in
+    let size : length front ≡ i = length-take-le i (drop from text) (omega (arith, length-drop from text, h)) in
+    let place : from + i ≡ length front + from = omega (arith, size) in
+    ap (λ (k : ℕ). getD (front ++ drop (0 + i) text) k 0) place
+    ∙ getD-append-add front (drop (0 + i) text) from 0
+    ∙ getD-drop (0 + i) text from 0
+    ∙ ap (λ (k : ℕ). getD text k 0) sums
+    ∙ sym (getD-drop from text i 0)
+  where
+    sums : 0 + i + from ≡ from + i
+    sums = omega arith
+
+pub brought-next : (text : List ℕ) (from i : ℕ) → from + i < length text
+    → set (paste text 0 (drop from text) i) i (getD (paste text 0 (drop from text) i) (from + i) 0) ≡ paste text 0 (drop from text) (i + 1)
+brought-next text from i h =
+    let zero-i : i ≡ 0 + i = omega arith in
+    let one : suc i ≡ i + 1 = omega arith in
+    ap (λ (b : ℕ). set (paste text 0 (drop from text) i) i b) (brought text from i h)
+    ∙ ap (λ (k : ℕ). set (paste text 0 (drop from text) i) k (getD (drop from text) i 0)) zero-i
+    ∙ paste-suc text 0 (drop from text) i 0 (omega (arith, h)) (omega (arith, h, length-drop from text))
+    ∙ ap (λ (k : ℕ). paste text 0 (drop from text) k) one

@@ -1,0 +1,2 @@
+-- Laws that the functions' proofs cite, and the promises' proofs.
+pub mod CallLaws

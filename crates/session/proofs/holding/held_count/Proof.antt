@@ -1,0 +1,22 @@
+-- A rest without a newline is its own first line.
+use mathlib.Core.Path.{_≡_, refl, sym, ap, _∙_}
+use native.Mathlib.Omega.{arith}
+use borrow.Author.Needs.{needs}
+use mathlib.Core.Logic.{⊎-elim}
+use lib.ListN.{length}
+use lib.Dec.{eqb, ltb}
+use borrow.Author.Tests.{eqb-true, eqb-false, ltb-true, ltb-false}
+use Rattle.text.specs.Newlines.{firstLine}
+use Rattle.words.proofs.TestLaws.{true-or-false}
+use Rattle.text.proofs.DigitLaws.{both-of}
+use Rattle.session.proofs.CallLaws.{held-count-cut, held-count-whole}
+use Rattle.session.proofs.holding.held_count.Statement.{statement}
+use Rattle.session.proofs.holding.held_count.Tie as tie
+
+pub held-count-spec : {M : Type 1} → statement M
+held-count-spec =
+    tie.close
+    (tie.spec
+    (λ c κs. search needs)
+    (λ c. held-count-cut (c .before .before .before .args .rest .now) _ (c .before .line-end .ensures) (c .if1 .taken))
+    (λ c. held-count-whole (c .before .before .before .args .rest .now) _ (c .before .line-end .ensures) (c .if1 .left)))
