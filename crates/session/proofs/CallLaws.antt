@@ -1,12 +1,13 @@
 -- What the smaller calls rest on: an empty chassis, what is held, and when a call is refused.
-use mathlib.Core.Path.{_≡_, refl, sym, ap, subst, _∙_}
+use mathlib.Core.Path.{_≡_, refl, sym, ap, ap₂, subst, _∙_}
 use mathlib.Core.Bool.{Bool, true, false, cond, not, _&&_, _||_}
 use mathlib.Core.List.{List, _++_}
-use Prim.Native.Nat.{ℕ, suc, _+_, _<_, _≤_, min}
+use Prim.Native.Nat.{ℕ, suc, _+_, _-_, _<_, _≤_}
+use native.Mathlib.Decide.{decLe}
 use native.Mathlib.Omega.{arith}
 use lib.Dec.{eqb, ltb}
 use lib.ListN.{length, getD, take, drop, set, replicate, length-take, length-drop}
-use lib.Seq.{take-all, length-take-le, paste, paste-suc, getD-drop, getD-append-add}
+use lib.Seq.{take-all, take-length, take-take, take-add, drop-at, length-take-le, paste, paste-suc, getD-drop, getD-append-add}
 use borrow.Author.Tests.{eqb-true, eq-eqb, ltb-true, ltb-false}
 use Rattle.bus.specs.Sense.{pagesKnown}
 use Rattle.bus.specs.State.{freeBus}
@@ -72,3 +73,41 @@ brought-next text from i h =
     ∙ ap (λ (k : ℕ). set (paste text 0 (drop from text) i) k (getD (drop from text) i 0)) zero-i
     ∙ paste-suc text 0 (drop from text) i 0 (omega (arith, h)) (omega (arith, h, length-drop from text))
     ∙ ap (λ (k : ℕ). paste text 0 (drop from text) k) one
+
+-- ---- What is held is the front of the rest
+
+pub held-within : (rest : List ℕ) → length (heldOf rest) ≤ length rest
+held-within rest =
+    ⊎-elim (λ has. rw has (omega arith)) (λ none. rw none (omega (arith, length-take 21 rest))) (true-or-false (hasNewline rest))
+
+pub held-front : (rest : List ℕ) → take (length (heldOf rest)) rest ≡ heldOf rest
+held-front rest =
+    ⊎-elim (λ has. rw has (take-length rest)) (λ none. rw none (go (decLe 21 (length rest)))) (true-or-false (hasNewline rest))
+  where
+    go : Dec (21 ≤ length rest) → take (length (take 21 rest)) rest ≡ take 21 rest
+    go (yes h) = ap (λ (k : ℕ). take k rest) (length-take-le 21 rest h)
+    go (no h) = ap (λ (l : List ℕ). take (length l) rest) (take-all 21 rest (omega arith)) ∙ take-length rest ∙ sym (take-all 21 rest (omega arith))
+
+-- the bytes from one place to another
+pub between : (text : List ℕ) (from filled : ℕ) → from ≤ filled → filled ≤ length text → drop from (take filled text) ≡ take (filled - from) (drop from text)
+between text from filled h k =
+    let sum : filled ≡ from + (filled - from) = omega (arith, h) in
+    ap (λ (n : ℕ). drop from (take n text)) sum
+    ∙ ap (drop from) (take-add from (filled - from) text)
+    ∙ drop-at (take from text) (take (filled - from) (drop from text)) from (length-take-le from text (omega (arith, h, k)))
+
+pub held-home : (text : List ℕ) (from filled count : ℕ) → from ≤ filled → filled ≤ length text → count ≡ length (heldOf (take (filled - from) (drop from text)))
+    → (text' : List ℕ) → text' ≡ paste text 0 (drop from text) count
+    → (count ≡ length (heldOf (drop from (take filled text))))
+    × (text' ≡ heldOf (drop from (take filled text)) ++ drop (length (heldOf (drop from (take filled text)))) text)
+held-home text from filled count h k e text' left =
+    let rest = take (filled - from) (drop from text) in
+    let front : take (length (heldOf rest)) (drop from text) ≡ heldOf rest =
+        sym (take-take (length (heldOf rest)) (filled - from) (drop from text) (omega (arith, held-within rest, length-take (filled - from) (drop from text))))
+        ∙ held-front rest in
+    rw (between text from filled h k) (
+    e,
+    left ∙ ap (λ (n : ℕ). paste text 0 (drop from text) n) e ∙ ap₂ (λ (l : List ℕ) (n : ℕ). l ++ drop n text) front (none (length (heldOf rest))))
+  where
+    none : (n : ℕ) → 0 + n ≡ n
+    none n = omega arith

@@ -1,2 +1,5 @@
 -- Laws that the functions' proofs cite, and the promises' proofs.
 pub mod CallLaws
+pub mod LineLaws
+pub mod EventsLaws
+pub mod SetupLaws

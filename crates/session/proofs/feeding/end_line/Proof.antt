@@ -14,7 +14,7 @@ end-line-spec =
     tie.close
     (tie.spec
     (λ c. ltb-true _ _ (both-of (ltb 0 (c .before .args .held)) (ltb (c .before .args .held) (length (c .before .args .text .now))) (c .if1 .taken) .1))
-    (λ c. record { fits = omega (arith, ltb-true _ _ (both-of (ltb 0 (c .before .args .held)) (ltb (c .before .args .held) (length (c .before .args .text .now))) (c .if1 .taken) .1)) })
+    (λ c. record { fits = omega (arith, ltb-true (c .before .args .held) (length (c .before .args .text .now)) (both-of (ltb 0 (c .before .args .held)) (ltb (c .before .args .held) (length (c .before .args .text .now))) (c .if1 .taken) .1)) })
     (λ c. length-set (c .before .args .text .now) (c .before .args .held) 10)
     (λ c. rw (c .if1 .taken) (refl, refl))
     (λ c. rw (c .if1 .left) (refl, refl)))
