@@ -103,11 +103,12 @@ pub held-home : (text : List ℕ) (from filled count : ℕ) → from ≤ filled 
 held-home text from filled count h k e text' left =
     let rest = take (filled - from) (drop from text) in
     let front : take (length (heldOf rest)) (drop from text) ≡ heldOf rest =
-        sym (take-take (length (heldOf rest)) (filled - from) (drop from text) (omega (arith, held-within rest, length-take (filled - from) (drop from text))))
-        ∙ held-front rest in
+    sym (take-take (length (heldOf rest)) (filled - from) (drop from text) (omega (arith, held-within rest, length-take (filled - from) (drop from text))))
+    ∙ held-front rest in
     rw (between text from filled h k) (
-    e,
-    left ∙ ap (λ (n : ℕ). paste text 0 (drop from text) n) e ∙ ap₂ (λ (l : List ℕ) (n : ℕ). l ++ drop n text) front (none (length (heldOf rest))))
+      e,
+      left ∙ ap (λ (n : ℕ). paste text 0 (drop from text) n) e ∙ ap₂ (λ (l : List ℕ) (n : ℕ). l ++ drop n text) front (none (length (heldOf rest))),
+    )
   where
     none : (n : ℕ) → 0 + n ≡ n
     none n = omega arith

@@ -106,8 +106,8 @@ going-line out₀ whole out w rest used written g room has nineteen =
     let more : (length out - written) / 19 ≡ suc ((length out' - (written + 19)) / 19) = omega (arith, room, size) in
     let later = still out' (written + 19) (turns w (firstLine rest)) (restOf rest) in
     let now : still out written w rest ≡ lineTaken line (length (firstLine rest)) later =
-        ap (λ (n : ℕ). takenOff says turns n w rest) more
-        ∙ taken-line says turns ((length out' - (written + 19)) / 19) w rest has in
+    ap (λ (n : ℕ). takenOff says turns n w rest) more
+    ∙ taken-line says turns ((length out' - (written + 19)) / 19) w rest has in
     let at : written + length line ≡ written + 19 = ap (λ (k : ℕ). written + k) nineteen in
     record {
       long = size ∙ g .long;
@@ -132,7 +132,7 @@ pub home : (out bytes : List ℕ) (written : ℕ) → written + length bytes ≤
 home out bytes written h =
     let behind : List ℕ = drop written out in
     let none : postOf written (length out - written) out ≡ [] =
-        post-is written (length out) out (omega (arith, h)) ∙ drop-length out in
+    post-is written (length out) out (omega (arith, h)) ∙ drop-length out in
     let fits : 0 + length bytes ≤ length behind = omega (arith, h, length-drop written out) in
     ap₂ (λ (part post : List ℕ). take written out ++ (sets part 0 bytes ++ post)) (part-behind out written) none
     ∙ ap (λ (l : List ℕ). take written out ++ l) (append-nil (sets behind 0 bytes) ∙ sets-eq bytes behind 0 fits ∙ ap (λ (l : List ℕ). bytes ++ l) (drop-drop (0 + length bytes) written out))
@@ -240,9 +240,10 @@ pub returned : (text out₀ m₀ p₀ : List ℕ) (bus₀ : Bus) (out m p : List
     → Gone out₀ (wholeOf text out₀ m₀ p₀ bus₀) out (world Running bus m p) used written → Returned text out₀ m₀ p₀ bus₀ out m p bus used written
 unfolding linesFor
 returned text out₀ m₀ p₀ bus₀ out m p bus used written g =
-    let t = wholeOf text out₀ m₀ p₀ bus₀ in
-    (ap (λ (w : World). lines w used written) (g .state) ∙ ap (λ (k : ℕ). lines (t .state) k written) (g .bytes) ∙ ap (λ (k : ℕ). lines (t .state) (t .used) k) (g .answers),
-    (g .printed, (ap (λ (w : World). w .memory) (g .state), ap (λ (w : World). w .ports) (g .state))))
+    let t = wholeOf text out₀ m₀ p₀ bus₀ in (
+      ap (λ (w : World). lines w used written) (g .state) ∙ ap (λ (k : ℕ). lines (t .state) k written) (g .bytes) ∙ ap (λ (k : ℕ). lines (t .state) (t .used) k) (g .answers),
+      (g .printed, (ap (λ (w : World). w .memory) (g .state), ap (λ (w : World). w .ports) (g .state))),
+    )
   where
     lines : World → ℕ → ℕ → TakenLines
     lines w u k = record { session = w .session; used = u; written = k }

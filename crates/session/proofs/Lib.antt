@@ -3,3 +3,4 @@ pub mod CallLaws
 pub mod LineLaws
 pub mod EventsLaws
 pub mod SetupLaws
+pub mod FeedLaws

@@ -58,7 +58,7 @@ pub event-framed : (m : Machine) (text : List ℕ) (event : Event) → Framed te
 unfolding saysBy turnsBy
 event-framed m text event f =
     let size : length (firstLine text) ≡ 14 =
-        eqb-true (length (firstLine text)) 14 (both-of (eqb (length (firstLine text)) 14) (everyListed isDigit (firstLine text)) (f .right) .0) in
+    eqb-true (length (firstLine text)) 14 (both-of (eqb (length (firstLine text)) 14) (everyListed isDigit (firstLine text)) (f .right) .0) in
     rw (one-line (world Running (m .bus) (m .memory) (m .ports)) text (f .has), f .right, f .same, size)
     record { bus = refl; used = refl; memory = refl; ports = refl; said = refl }
 
@@ -95,8 +95,8 @@ pub frame-taken : (bus : Bus) (m p rest out : List ℕ) (event : Event) → Line
 frame-taken bus m p rest out event e room fit sense s out' m' p' is mem por put =
     let step = sound-step-is-the-step (machine bus m p) event fit sense in
     let same : s ≡ stepped (after (machine bus m p) event .bus) (answerTo (machine bus m p) event) =
-        is ∙ ap (λ (left : Machine). stepped (left .bus) (soundAnswer (machine bus m p) event)) (step .0)
-        ∙ ap (stepped (after (machine bus m p) event .bus)) (step .1) in
+    is ∙ ap (λ (left : Machine). stepped (left .bus) (soundAnswer (machine bus m p) event)) (step .0)
+    ∙ ap (stepped (after (machine bus m p) event .bus)) (step .1) in
     let there = put ∙ printed-fits (s .answer) out room ∙ ap (λ (r : Stepped). sets out 0 (answerLine (r .answer))) same in
     rw (ap (λ (r : Stepped). r .bus) same, mem ∙ ap (λ (left : Machine). left .memory) (step .0), por ∙ ap (λ (left : Machine). left .ports) (step .0))
     (taken-as bus m p rest out (after (machine bus m p) event) (answerLine (answerTo (machine bus m p) event)) 15 (event-framed (machine bus m p) rest event (framed rest event e)) out' there)

@@ -61,11 +61,12 @@ module _ {S : Type 0} (says : S → List ℕ → List ℕ) (turns : S → List �
       ⊎-elim
       (λ (has : hasNewline text ≡ true).
       rw (taken-line n s text has) (omega (
-      arith,
-      taken-used n (turns s (firstLine text)) (restOf text),
-      ap length (rest-behind text has),
-      length-drop (suc (length (firstLine text))) text,
-      line-within text has)))
+        arith,
+        taken-used n (turns s (firstLine text)) (restOf text),
+        ap length (rest-behind text has),
+        length-drop (suc (length (firstLine text))) text,
+        line-within text has,
+      )))
       (λ (none : hasNewline text ≡ false). rw (taken-none (suc n) s text none) (omega arith))
       (true-or-false (hasNewline text))
 

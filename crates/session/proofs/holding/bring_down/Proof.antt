@@ -30,10 +30,13 @@ bring-down-spec =
     (λ c. omega arith)
     (λ c.
     let given = c .before .before .before .args in
-    let at = c .before .before .loop in
-    (omega arith,
-    (length-set (at .text) (at .i) _ ∙ at .inv .1 .0,
-    ap (λ (l : List ℕ). set l (at .i) (getD l (given .from + at .i) 0)) (at .inv .1 .1) ∙ brought-next (given .text .now) (given .from) (at .i) (omega (arith, c .before .before .before .pre)))))
+    let at = c .before .before .loop in (
+      omega arith,
+      (
+        length-set (at .text) (at .i) _ ∙ at .inv .1 .0,
+        ap (λ (l : List ℕ). set l (at .i) (getD l (given .from + at .i) 0)) (at .inv .1 .1) ∙ brought-next (given .text .now) (given .from) (at .i) (omega (arith, c .before .before .before .pre)),
+      ),
+    ))
     (λ c. c .before .loop .inv .1 .0)
     (λ c.
     let given = c .before .before .args in

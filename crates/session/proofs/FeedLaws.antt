@@ -1,0 +1,102 @@
+-- A whole call: when it is refused, and what it tells and leaves.
+use mathlib.Core.Path.{_≡_, refl, sym, ap, subst, _∙_}
+use mathlib.Core.Logic.{⊎-elim}
+use mathlib.Core.Bool.{Bool, true, false, cond, _&&_, _||_}
+use mathlib.Core.List.{List, _++_}
+use Prim.Native.Nat.{ℕ, _+_, _/_, _<_, _≤_}
+use native.Mathlib.Omega.{arith}
+use lib.Dec.{eqb, ltb}
+use lib.ListN.{length, take, drop, set, length-set}
+use lib.Seq.{sets, length-take-le}
+use borrow.Author.Tests.{ltb-true, ltb-false}
+use Rattle.words.proofs.TestLaws.{true-or-false, neither-of}
+use Rattle.bus.specs.Refusal as Refusal
+use Rattle.bus.specs.Sense.{makesSense}
+use Rattle.bus.specs.declared.state.Bus.{Bus}
+use Rattle.judgement.specs.Refusals.{hasWrongBuffers}
+use Rattle.text.specs.Newlines.{newline}
+use Rattle.text.specs.AnswerLine.{answerLength}
+use Rattle.text.specs.Reading.{Taken, heldOf}
+use Rattle.text.proofs.DigitLaws.{both-of}
+use Rattle.text.proofs.ReadingLaws.{taken-rest, taken-used}
+use Rattle.session.specs.World.{World, says, turns}
+use Rattle.session.specs.Feeding.{takes, linesFor, linesTaken, feedRefusal, takenFed, heldIn, isEnded, endedText, endedAt}
+use Rattle.session.specs.declared.feeding.Fed.{Fed}
+use Rattle.session.specs.declared.taking.TakenLines.{TakenLines}
+use Rattle.session.proofs.SetupLaws.{LinesTaken}
+
+-- an accepted call has sound buffers and a sensible state
+pub record Sound (bus : Bus) (m p text : List ℕ) (filled : ℕ) : Type 0 where
+  pub filled-within : filled ≤ length text
+  pub fit : hasWrongBuffers m p ≡ false
+  pub sense : makesSense bus ≡ true
+
+pub sound : (bus : Bus) (m p text : List ℕ) (filled : ℕ) → feedRefusal bus m p text filled ≡ 0 → Sound bus m p text filled
+sound bus m p text filled e = go (hasWrongBuffers m p || ltb (length text) filled) refl (makesSense bus) refl
+  where
+    number : Bool → Bool → ℕ
+    number wrong sense = cond wrong 1 (cond sense 0 2)
+
+    one-is-none : _≡_ {A = ℕ} 1 0 → ⊥
+    one-is-none e = omega (arith, e)
+
+    two-is-none : _≡_ {A = ℕ} 2 0 → ⊥
+    two-is-none e = omega (arith, e)
+
+    go : (wrong : Bool) → (hasWrongBuffers m p || ltb (length text) filled) ≡ wrong → (sense : Bool) → makesSense bus ≡ sense → Sound bus m p text filled
+    go true w s h = absurd (one-is-none (subst (λ (t : Bool). number t (makesSense bus) ≡ 0) w e))
+    go false w true h =
+        let both = neither-of (hasWrongBuffers m p) (ltb (length text) filled) w in
+        record { filled-within = ltb-false (length text) filled (both .1); fit = both .0; sense = h }
+    go false w false h = absurd (two-is-none (subst (λ (t : Bool). number false t ≡ 0) h (subst (λ (t : Bool). number t (makesSense bus) ≡ 0) w e)))
+
+-- the lines that are used lie in the filled part
+pub used-within : (w : World) (text out : List ℕ) (filled : ℕ) (lines : TakenLines) → filled ≤ length text
+    → lines ≡ linesTaken (takes (length out) w (take filled text)) → lines .used ≤ filled
+used-within w text out filled lines h e =
+    omega (
+      arith,
+      ap (λ (l : TakenLines). l .used) e,
+      taken-used says turns (linesFor (w .session .stage) (length out / answerLength)) w (take filled text),
+      length-take-le filled text h,
+    )
+
+-- what take_in owes
+abbrev pub FedTaken : World → List ℕ → List ℕ → ℕ → Fed → List ℕ → List ℕ → List ℕ → List ℕ → Type 0
+FedTaken w text out filled fed text' out' m' p' =
+    let t = takes (length out) w (take filled text) in
+    (fed ≡ takenFed t)
+    × ((text' ≡ heldIn text (t .rest)) × ((out' ≡ sets out 0 (t .said)) × ((m' ≡ t .state .memory) × (p' ≡ t .state .ports))))
+
+pub fed-taken : (w : World) (text out : List ℕ) (filled : ℕ) (lines : TakenLines) (held : ℕ) (text' out' m' p' : List ℕ)
+    → LinesTaken w (take filled text) out lines out' m' p' → held ≡ length (heldOf (drop (lines .used) (take filled text)))
+    → text' ≡ heldOf (drop (lines .used) (take filled text)) ++ drop (length (heldOf (drop (lines .used) (take filled text)))) text
+    → FedTaken w text out filled (record { refusal = Refusal.accepted; session = lines .session; held = held; written = lines .written }) text' out' m' p'
+fed-taken w text out filled lines held text' out' m' p' taken count left =
+    let t = takes (length out) w (take filled text) in
+    let rest : drop (lines .used) (take filled text) ≡ t .rest =
+    ap (λ (l : TakenLines). drop (l .used) (take filled text)) (taken .0)
+    ∙ sym (taken-rest says turns (linesFor (w .session .stage) (length out / answerLength)) w (take filled text)) in (
+      ap (λ (n : ℕ). told lines n) (count ∙ ap (λ (l : List ℕ). length (heldOf l)) rest) ∙ ap (λ (l : TakenLines). told l (length (heldOf (t .rest)))) (taken .0),
+      (left ∙ ap (heldIn text) rest, taken .1),
+    )
+  where
+    told : TakenLines → ℕ → Fed
+    told l n = record { refusal = Refusal.accepted; session = l .session; held = n; written = l .written }
+
+-- the newline that ends the last line has room
+pub ended-within : (text : List ℕ) (held : ℕ) → held ≤ length text → endedAt text held ≤ length (endedText text held)
+ended-within text held h =
+    ⊎-elim
+    (λ (ends : isEnded text held ≡ true).
+    rw ends (omega (arith, length-set text held newline, ltb-true held (length text) (both-of (ltb 0 held) (ltb held (length text)) ends .1))))
+    (λ (goes-on : isEnded text held ≡ false). rw goes-on h)
+    (true-or-false (isEnded text held))
+
+-- what finish owes, from what take_in left of the text that was ended
+pub finished : (w : World) (text out : List ℕ) (held : ℕ) (text₁ : List ℕ) (filled : ℕ) (fed : Fed) (text' out' m' p' : List ℕ)
+    → filled ≡ endedAt text held → text₁ ≡ endedText text held → FedTaken w text₁ out filled fed text' out' m' p'
+    → FedTaken w (endedText text held) out (endedAt text held) fed text' out' m' p'
+finished w text out held text₁ filled fed text' out' m' p' at same taken =
+    subst (λ (l : List ℕ). FedTaken w l out (endedAt text held) fed text' out' m' p') same
+    (subst (λ (n : ℕ). FedTaken w text₁ out n fed text' out' m' p') at taken)
