@@ -33,16 +33,16 @@ pub fn run() {
     let mut out = io::large_buffer();
     let mut memory = [0u8; 65536];
     let mut ports = [0u8; 256];
-    turns(&mut text, &mut out, &mut memory, &mut ports);
+    take_turns(&mut text, &mut out, &mut memory, &mut ports);
 }
 
 // A proved loop ends, and no input is as long as this one may go on.
-fn turns(text: &mut [u8], out: &mut [u8], memory: &mut [u8], ports: &mut [u8]) {
+fn take_turns(text: &mut [u8], out: &mut [u8], memory: &mut [u8], ports: &mut [u8]) {
     let mut left = u64::MAX;
     let mut session = Session::fresh();
     let mut held: usize = 0;
     while 0 < left {
-        let at = turn(session, held, text, out, memory, ports);
+        let at = take_turn(session, held, text, out, memory, ports);
         session = at.session;
         held = at.held;
         let next = at.next;
@@ -61,7 +61,7 @@ fn turns(text: &mut [u8], out: &mut [u8], memory: &mut [u8], ports: &mut [u8]) {
     }
 }
 
-fn turn(
+fn take_turn(
     session: Session,
     held: usize,
     text: &mut [u8],
