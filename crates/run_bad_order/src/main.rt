@@ -1,0 +1,4 @@
+// Runs the text program on examples/bad_order.frames.
+fn main() {
+    program::run();
+}

@@ -1,0 +1,4 @@
+// Runs the text program on examples/printed.frames.
+fn main() {
+    program::run();
+}

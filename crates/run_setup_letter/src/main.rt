@@ -1,0 +1,4 @@
+// Runs the text program on examples/setup_letter.frames.
+fn main() {
+    program::run();
+}

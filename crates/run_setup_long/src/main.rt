@@ -1,0 +1,4 @@
+// Runs the text program on examples/setup_long.frames.
+fn main() {
+    program::run();
+}

@@ -1,0 +1,4 @@
+// Runs the text program on examples/setup_short.frames.
+fn main() {
+    program::run();
+}

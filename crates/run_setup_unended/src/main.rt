@@ -1,0 +1,4 @@
+// Runs the text program on examples/setup_unended.frames.
+fn main() {
+    program::run();
+}
