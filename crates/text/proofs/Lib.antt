@@ -3,3 +3,5 @@ pub mod DigitLaws
 pub mod NewlineLaws
 pub mod FrameLaws
 pub mod ReadingLaws
+pub mod LinePromises
+pub mod ReadBack

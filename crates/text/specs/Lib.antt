@@ -4,3 +4,4 @@ pub mod Newlines
 pub mod Frames
 pub mod AnswerLine
 pub mod Reading
+pub mod Promises
