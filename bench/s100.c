@@ -159,7 +159,7 @@ static void stop_contention(void)
     memset(bus.driven, 0, sizeof bus.driven);
 }
 
-/* The step of an accepted event; cycles and datum go into the answer. */
+/* The step of an accepted event; what a cycle had on the bus goes into the answer's datum. */
 static void take_step(const struct event *e, struct answer *a)
 {
     uint8_t *at = &memory[e->address & 0xFFFF];
@@ -340,6 +340,7 @@ static void answer_event(const char *line, size_t length)
 int main(void)
 {
     static char text[65536];
+    /* An unfinished line, cut at one byte more than the longest that is right. */
     char line[21];
     size_t length = 0, got;
     int is_set_up = 0;

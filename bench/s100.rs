@@ -1,4 +1,4 @@
-// The text program written plainly in Rust, to be timed against s100.
+// The text program written plainly in Rust, to be timed against s100: frames on standard input, an answer line for each on standard output.
 use std::io::{self, BufRead, BufWriter, Write};
 
 const FREE: u8 = 0;

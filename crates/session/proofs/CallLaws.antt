@@ -1,6 +1,6 @@
 -- What the smaller calls rest on: an empty chassis, what is held, and when a call is refused.
 use mathlib.Core.Path.{_≡_, refl, sym, ap, ap₂, subst, _∙_}
-use mathlib.Core.Bool.{Bool, true, false, cond, not, _&&_, _||_}
+use mathlib.Core.Bool.{Bool, true, false, cond, _&&_}
 use mathlib.Core.List.{List, _++_}
 use Prim.Native.Nat.{ℕ, suc, _+_, _-_, _<_, _≤_}
 use native.Mathlib.Decide.{decLe}
@@ -17,7 +17,7 @@ use Rattle.text.specs.Newlines.{hasNewline, firstLine}
 use Rattle.text.specs.Reading.{heldOf}
 use Rattle.text.proofs.DigitLaws.{both-of}
 use Rattle.text.proofs.NewlineLaws.{unended, line-within}
-use Rattle.words.proofs.TestLaws.{true-or-false, then-pick, else-pick}
+use Rattle.words.proofs.TestLaws.{true-or-false}
 use mathlib.Core.Logic.{⊎-elim}
 
 -- setup of nothing is an empty chassis, whatever it answers

@@ -17,11 +17,10 @@ use Rattle.events.proofs.Stays.{sense-kept-by-events}
 use Rattle.text.specs.Digits.{isDigits}
 use Rattle.text.specs.Frames.{eventDigits, eventIn}
 use Rattle.text.specs.Newlines.{hasNewline, firstLine, restOf}
-use Rattle.text.specs.AnswerLine.{answerLine, answerLength}
+use Rattle.text.specs.AnswerLine.{answerLength}
 use Rattle.text.specs.Reading.{Taken, takenOff, nothingTaken, lineTaken}
 use Rattle.text.proofs.ReadingLaws.{taken-line, taken-none, none-taken, taken-used, rest-behind, answer-long}
-use Rattle.text.proofs.NewlineLaws.{line-within}
-use Rattle.session.specs.World.{World, world, machineOf, says, turns, saysBy, turnsBy, eventAnswer, afterEvent}
+use Rattle.session.specs.World.{World, world, says, turns, saysBy, turnsBy, eventAnswer, afterEvent}
 use Rattle.session.specs.Feeding.{takes, linesFor, linesTaken, eventTaken}
 use Rattle.session.specs.declared.taking.EventLine.{EventLine}
 use Rattle.session.specs.declared.taking.TakenLines.{TakenLines}
@@ -194,7 +193,7 @@ turn-on out₀ whole out bus m p rest used written g room some =
 pub fit-kept : (m p m' p' : List ℕ) → length m' ≡ length m → length p' ≡ length p → hasWrongBuffers m p ≡ false → hasWrongBuffers m' p' ≡ false
 fit-kept m p m' p' em ep fit = rw (em, ep) fit
 
-sense-after : (m : Machine) (line : List ℕ) → makesSense (m .bus) ≡ true → makesSense (afterEvent m line .bus) ≡ true
+pub sense-after : (m : Machine) (line : List ℕ) → makesSense (m .bus) ≡ true → makesSense (afterEvent m line .bus) ≡ true
 sense-after m line sense =
     ⊎-elim (λ right. rw right (sense-kept-by-events m (eventIn line) sense)) (λ wrong. rw wrong sense) (true-or-false (isDigits eventDigits line))
 

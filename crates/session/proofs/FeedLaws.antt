@@ -1,12 +1,12 @@
 -- A whole call: when it is refused, and what it tells and leaves.
 use mathlib.Core.Path.{_≡_, refl, sym, ap, subst, _∙_}
 use mathlib.Core.Logic.{⊎-elim}
-use mathlib.Core.Bool.{Bool, true, false, cond, _&&_, _||_}
+use mathlib.Core.Bool.{Bool, true, false, cond, _||_}
 use mathlib.Core.List.{List, _++_}
-use Prim.Native.Nat.{ℕ, _+_, _/_, _<_, _≤_}
+use Prim.Native.Nat.{ℕ, _/_, _≤_}
 use native.Mathlib.Omega.{arith}
-use lib.Dec.{eqb, ltb}
-use lib.ListN.{length, take, drop, set, length-set}
+use lib.Dec.{ltb}
+use lib.ListN.{length, take, drop, length-set}
 use lib.Seq.{sets, length-take-le}
 use borrow.Author.Tests.{ltb-true, ltb-false}
 use Rattle.words.proofs.TestLaws.{true-or-false, neither-of}
@@ -16,7 +16,7 @@ use Rattle.bus.specs.declared.state.Bus.{Bus}
 use Rattle.judgement.specs.Refusals.{hasWrongBuffers}
 use Rattle.text.specs.Newlines.{newline}
 use Rattle.text.specs.AnswerLine.{answerLength}
-use Rattle.text.specs.Reading.{Taken, heldOf}
+use Rattle.text.specs.Reading.{heldOf}
 use Rattle.text.proofs.DigitLaws.{both-of}
 use Rattle.text.proofs.ReadingLaws.{taken-rest, taken-used}
 use Rattle.session.specs.World.{World, says, turns}

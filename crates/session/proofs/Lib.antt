@@ -4,3 +4,5 @@ pub mod LineLaws
 pub mod EventsLaws
 pub mod SetupLaws
 pub mod FeedLaws
+pub mod RunPromises
+pub mod ChunkPromises

@@ -1,7 +1,7 @@
 -- One line taken off a text, by the stage of the session and by what the line is.
 use mathlib.Core.Path.{_≡_, refl, sym, ap, _∙_}
 use mathlib.Core.Bool.{true, false}
-use mathlib.Core.List.{List, [], _++_, append-nil}
+use mathlib.Core.List.{List, [], append-nil}
 use Prim.Native.Nat.{ℕ, suc, _+_, _≤_}
 use native.Mathlib.Omega.{arith}
 use lib.Dec.{eqb}
@@ -20,12 +20,12 @@ use Rattle.events.specs.declared.answers.Answer.{Answer}
 use Rattle.events.specs.declared.steps.Stepped.{Stepped}
 use Rattle.events.proofs.Refused.{sound-step-is-the-step}
 use Rattle.words.specs.Among.{everyListed}
-use Rattle.text.specs.Digits.{isDigit, isDigits}
+use Rattle.text.specs.Digits.{isDigit}
 use Rattle.text.specs.Newlines.{hasNewline, firstLine, restOf}
-use Rattle.text.specs.Frames.{eventDigits, eventIn, nextLine}
+use Rattle.text.specs.Frames.{nextLine}
 use Rattle.text.specs.declared.frames.Line.{Line}
 use Rattle.text.specs.AnswerLine.{answerLine, answerLength, printed}
-use Rattle.text.specs.Reading.{Taken, takenOff, nothingTaken}
+use Rattle.text.specs.Reading.{Taken, takenOff}
 use Rattle.text.proofs.DigitLaws.{both-of}
 use Rattle.text.proofs.FrameLaws.{Framed, framed, Spoilt, spoilt, not-ended}
 use Rattle.text.proofs.ReadingLaws.{taken-line, taken-none, none-taken, printed-fits}

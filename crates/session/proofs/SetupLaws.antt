@@ -3,19 +3,19 @@ use mathlib.Core.Path.{_≡_, refl, sym, ap, subst, _∙_}
 use mathlib.Core.Logic.{⊎-elim}
 use mathlib.Core.Bool.{Bool, true, false, _&&_}
 use mathlib.Core.List.{List, [], _∷_}
-use Prim.Native.Nat.{ℕ, zero, suc, _+_, _/_, _<_, _≤_, min}
+use Prim.Native.Nat.{ℕ, zero, suc, _+_, _/_, _≤_, min}
 use native.Mathlib.Omega.{arith}
 use lib.Dec.{leb, ltb}
 use lib.ListN.{length, take}
 use lib.Seq.{sets, take-at}
-use borrow.Author.Tests.{ltb-true, ltb-false, lt-ltb, leb-true, leb-false}
+use borrow.Author.Tests.{ltb-true, ltb-false, leb-true, leb-false}
 use Rattle.words.proofs.TestLaws.{true-or-false}
 use Rattle.bus.specs.declared.state.Bus.{Bus}
 use Rattle.bus.specs.declared.state.SetupAnswer.{SetupAnswer}
 use Rattle.text.specs.Newlines.{newline, hasNewline, firstLine, restOf}
 use Rattle.text.specs.Frames.{setupIn}
 use Rattle.text.specs.AnswerLine.{answerLine, answerLength}
-use Rattle.text.specs.Reading.{Taken, takenOff, nothingTaken}
+use Rattle.text.specs.Reading.{Taken, takenOff}
 use Rattle.text.proofs.DigitLaws.{both-of}
 use Rattle.text.proofs.NewlineLaws.{splits, unended, line-within}
 use Rattle.text.proofs.ReadingLaws.{taken-none, none-taken, answer-long}
@@ -23,7 +23,7 @@ use Rattle.session.specs.World.{World, world, says, turns, saysBy, turns
 use Rattle.session.specs.Feeding.{takes, linesFor, linesTaken, worldOf}
 use Rattle.session.specs.declared.state.Stage.{Stage}
 use Rattle.session.specs.declared.state.Session.{Session}
-use Rattle.session.specs.declared.state.Stage.the-variants.{Awaiting, Running, Ended}
+use Rattle.session.specs.declared.state.Stage.the-variants.{Awaiting, Ended}
 use Rattle.session.specs.declared.taking.TakenLines.{TakenLines}
 use Rattle.session.proofs.LineLaws.{one-line}
 

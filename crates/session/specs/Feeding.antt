@@ -1,7 +1,7 @@
 -- A call that is given the text read so far: it answers the lines that have ended, as many as there is room for, and holds the rest.
 use Prim.Native.Nat.{ℕ, _+_, _/_, min}
 use mathlib.Core.Bool.{Bool, cond, _||_, _&&_}
-use mathlib.Core.List.{List, [], _++_}
+use mathlib.Core.List.{List, _++_}
 use lib.Dec.{eqb, ltb}
 use lib.ListN.{length, take, drop, set}
 use lib.Seq.{sets}
@@ -11,7 +11,7 @@ use Rattle.bus.specs.declared.state.Bus.{Bus}
 use Rattle.judgement.specs.Refusals.{hasWrongBuffers}
 use Rattle.text.specs.Newlines.{newline}
 use Rattle.text.specs.AnswerLine.{answerLength}
-use Rattle.text.specs.Reading.{Taken, nothingTaken, takenOff, heldOf}
+use Rattle.text.specs.Reading.{Taken, takenOff, heldOf}
 use Rattle.session.specs.World.{World, says, turns}
 use Rattle.session.specs.declared.state.Stage.{Stage}
 use Rattle.session.specs.declared.state.Stage.the-variants.{Awaiting, Running, Ended}

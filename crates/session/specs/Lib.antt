@@ -1,4 +1,6 @@
--- Read in this order: what a line is answered, and where it leads; a chunk of text taken in; the whole output.
+-- Read in this order: what a line is answered, and where it leads; a call that takes text in; the whole output; calls one after another.
 pub mod World
 pub mod Feeding
 pub mod Output
+pub mod Chunks
+pub mod Promises

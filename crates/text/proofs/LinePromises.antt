@@ -1,17 +1,17 @@
 -- The lines of a text, and a text read in pieces.
-use mathlib.Core.Path.{_≡_, refl, sym, ap, ap₂, subst, _∙_}
+use mathlib.Core.Path.{_≡_, refl, sym, ap, ap₂, _∙_}
 use mathlib.Core.Logic.{⊎-elim}
-use mathlib.Core.Bool.{Bool, true, false, cond, false≢true}
+use mathlib.Core.Bool.{true, false}
 use mathlib.Core.List.{List, [], _∷_, _++_, append-assoc, append-nil}
-use Prim.Native.Nat.{ℕ, zero, suc, _+_, _<_, _≤_}
+use Prim.Native.Nat.{ℕ, zero, suc, _+_}
 use native.Mathlib.Omega.{arith}
 use lib.Dec.{eqb}
-use lib.ListN.{length, take, drop, length-append}
+use lib.ListN.{length, take}
 use lib.Seq.{append-snoc, take-take}
 use Rattle.words.proofs.TestLaws.{true-or-false, neither-of}
 use Rattle.text.specs.Newlines.{newline, hasNewline, firstLine, restOf, lastLine, linesAfter, linesOf}
 use Rattle.text.specs.Frames.{longest}
-use Rattle.text.specs.Reading.{Taken, answersTo, takenOff, lineTaken, nothingTaken, heldOf}
+use Rattle.text.specs.Reading.{answersTo, takenOff}
 use Rattle.text.specs.Promises.{LineEnded, LineUnended, TakenIsTheWhole, HeldIsEnough}
 use Rattle.text.proofs.NewlineLaws.{by-newline, splits}
 use Rattle.text.proofs.ReadingLaws.{taken-line, taken-none, none-taken}
@@ -145,3 +145,27 @@ held-is-enough S says turns cut s rest more =
     ∙ cut-same S says turns cut s (take 21 rest) rest more (take-take 21 21 rest (omega arith))
     ∙ ap (answersTo says turns s) (sym (begun rest more none))))
     (true-or-false (hasNewline rest))
+
+-- ---- A line with its newline
+
+-- it is its own first line, with nothing behind it
+pub ended-line : (line : List ℕ) → hasNewline line ≡ false
+    → (hasNewline (line ++ newline ∷ []) ≡ true) × ((firstLine (line ++ newline ∷ []) ≡ line) × (restOf (line ++ newline ∷ []) ≡ []))
+unfolding hasNewline firstLine restOf
+ended-line [] none = (refl, (refl, refl))
+ended-line (b ∷ line) none =
+    let both = neither-of (eqb b newline) (hasNewline line) none in
+    let so = ended-line line (both .1) in
+    rw (both .0) (so .0, (ap (λ (l : List ℕ). b ∷ l) (so .1 .0), so .1 .1))
+
+pub no-newline : hasNewline [] ≡ false
+unfolding hasNewline
+no-newline = refl
+
+pub last-of : (b : ℕ) (line : List ℕ) → lastLine (b ∷ line) ≡ (b ∷ line) ∷ []
+unfolding lastLine
+last-of b line = refl
+
+pub last-none : lastLine [] ≡ []
+unfolding lastLine
+last-none = refl

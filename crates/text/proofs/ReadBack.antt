@@ -1,25 +1,24 @@
 -- What is written reads back: digits, numbers, the lines of setup and of an event, the answer line.
-use mathlib.Core.Path.{_≡_, refl, sym, ap, ap₂, subst, _∙_}
+use mathlib.Core.Path.{_≡_, refl, ap, ap₂, _∙_}
 use mathlib.Core.Logic.{⊎-elim}
-use mathlib.Core.Bool.{Bool, true, false, cond, _&&_}
+use mathlib.Core.Bool.{Bool, true, false, cond}
 use mathlib.Core.List.{List, [], _∷_, _++_, map}
 use Prim.Native.Nat.{ℕ, zero, suc, _+_, _*_, _-_, _/_, _%_, _^_, _<_, _≤_}
 use native.Mathlib.Decide.{decLt}
 use native.Mathlib.Omega.{arith}
-use lib.Dec.{eqb, leb}
-use lib.ListN.{length, getD, take, drop, length-append, List·getD-append, length-map}
+use lib.Dec.{leb}
+use lib.ListN.{length, getD, length-append, List·getD-append, length-map}
 use lib.Seq.{getD-append-add, take-all}
 use lib.Pow.{pow-add}
 use borrow.Author.Tests.{leb-true, leb-false, le-leb, lt-leb, eq-eqb}
 use Rattle.words.specs.Among.{everyListed}
-use Rattle.words.proofs.TestLaws.{true-or-false}
 use Rattle.words.proofs.ListLaws.{every-at, every-of}
 use Rattle.judgement.specs.Table.{eventOf}
 use Rattle.judgement.specs.declared.event.Event.{Event}
 use Rattle.text.specs.Digits.{isDigit, valueOf, digitOf, numberAfter, numberOf, digitsOf, isDigits}
-use Rattle.text.specs.Frames.{part, eventIn, eventLine, setupIn, setupLine, fittedIn, pagesIn}
+use Rattle.text.specs.Frames.{part, eventIn, eventLine, setupLine}
 use Rattle.text.specs.AnswerLine.{answerDigits, answerLine, answerIn}
-use Rattle.text.specs.Promises.{DigitsReadBack, NumbersReadBack, EventReadsBack, SetupReadsBack, AnswerReadsBack, EventFits, AnswerFits}
+use Rattle.text.specs.Promises.{DigitsReadBack, NumbersReadBack, EventReadsBack, SetupReadsBack, AnswerReadsBack, EventFits}
 use Rattle.events.specs.declared.answers.Answer.{Answer}
 use Rattle.text.proofs.DigitLaws.{digit-kinds, value-small}
 use Rattle.text.proofs.ReadingLaws.{answer-long}

@@ -1,8 +1,8 @@
 -- Lines taken off a text, one at a time.
-use mathlib.Core.Path.{_≡_, refl, sym, ap, subst, _∙_}
+use mathlib.Core.Path.{_≡_, refl, sym, ap, _∙_}
 use mathlib.Core.Logic.{⊎-elim}
 use mathlib.Core.Bool.{true, false}
-use mathlib.Core.List.{List, [], _∷_, _++_}
+use mathlib.Core.List.{List, _∷_, _++_}
 use Prim.Native.Nat.{ℕ, zero, suc, _+_, _≤_}
 use native.Mathlib.Omega.{arith}
 use lib.ListN.{length, drop, length-drop}
@@ -13,7 +13,7 @@ use Rattle.words.proofs.TestLaws.{true-or-false}
 use Rattle.text.specs.Newlines.{newline, hasNewline, firstLine, restOf}
 use Rattle.text.specs.Digits.{digitsOf}
 use Rattle.text.specs.AnswerLine.{answerLine, answerLength, printed}
-use Rattle.text.specs.Reading.{Taken, nothingTaken, lineTaken, takenOff}
+use Rattle.text.specs.Reading.{nothingTaken, lineTaken, takenOff}
 use Rattle.text.proofs.NewlineLaws.{splits, line-within}
 
 -- the rest stands behind the first line and its newline

@@ -1,14 +1,12 @@
 -- What is promised of digits, lines and frames. The proof of each stands in proofs/ under its name in lower case, with hyphens.
 use Prim.Native.Nat.{ℕ, _+_, _^_, _<_}
 use mathlib.Core.Path.{_≡_}
-use mathlib.Core.Bool.{Bool, true, false}
-use mathlib.Core.List.{List, [], _∷_, _++_}
+use mathlib.Core.Bool.{true, false}
+use mathlib.Core.List.{List, _∷_, _++_}
 use lib.ListN.{length, getD, take}
 use Rattle.bus.specs.Refusal.{accepted}
-use Rattle.words.specs.Among.{everyListed}
 use Rattle.judgement.specs.declared.event.Event.{Event}
 use Rattle.events.specs.declared.answers.Answer.{Answer}
-use Rattle.text.specs.declared.frames.SetupLine.{SetupLine}
 use Rattle.text.specs.Digits.{isDigit, valueOf, digitOf, numberOf, digitsOf, isDigits}
 use Rattle.text.specs.Newlines.{newline, hasNewline, lastLine, linesOf}
 use Rattle.text.specs.Frames.{eventDigits, eventIn, eventLine, setupIn, setupLine, longest}

@@ -1,8 +1,8 @@
 -- By the refusal.
-use mathlib.Core.Path.{_≡_, refl, sym, ap, _∙_}
+use mathlib.Core.Path.{refl, sym, ap, _∙_}
 use borrow.Author.Needs.{needs}
 use borrow.Author.Tests.{eq-eqb, ne-eqb}
-use Rattle.session.specs.Feeding.{worldOf, feedRefusal, refusedFed}
+use Rattle.session.specs.Feeding.{feedRefusal, refusedFed}
 use Rattle.session.proofs.FeedLaws.{sound}
 use Rattle.session.proofs.feeding.feed.Statement.{statement}
 use Rattle.session.proofs.feeding.feed.Tie as tie

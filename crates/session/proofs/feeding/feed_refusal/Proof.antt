@@ -1,6 +1,5 @@
 -- The first reason that applies.
-use mathlib.Core.Path.{_≡_, refl, sym, ap, _∙_}
-use native.Mathlib.Omega.{arith}
+use mathlib.Core.Path.{refl, sym, _∙_}
 use borrow.Author.Needs.{needs}
 use Rattle.session.proofs.feeding.feed_refusal.Statement.{statement}
 use Rattle.session.proofs.feeding.feed_refusal.Tie as tie

@@ -1,12 +1,8 @@
 -- By the refusal, with the last line ended.
-use mathlib.Core.Path.{_≡_, refl, sym, ap, _∙_}
+use mathlib.Core.Path.{refl, sym, ap, _∙_}
 use borrow.Author.Needs.{needs}
 use borrow.Author.Tests.{eq-eqb, ne-eqb}
 use Rattle.session.specs.Feeding.{worldOf, feedRefusal, refusedFed}
-use mathlib.Core.Path.{subst}
-use mathlib.Core.List.{List}
-use Prim.Native.Nat.{ℕ, _≤_}
-use lib.ListN.{length}
 use Rattle.session.proofs.FeedLaws.{sound, ended-within, finished}
 use Rattle.session.proofs.feeding.finish.Statement.{statement}
 use Rattle.session.proofs.feeding.finish.Tie as tie

@@ -1,5 +1,5 @@
 -- Lines are taken, and the rest is held.
-use mathlib.Core.Path.{_≡_, refl, sym, ap, _∙_}
+use mathlib.Core.Path.{sym}
 use borrow.Author.Needs.{needs}
 use lib.Seq.{length-take-le}
 use Rattle.session.specs.Feeding.{worldOf}

@@ -1,14 +1,5 @@
 -- A rest without a newline is its own first line.
-use mathlib.Core.Path.{_≡_, refl, sym, ap, _∙_}
-use native.Mathlib.Omega.{arith}
 use borrow.Author.Needs.{needs}
-use mathlib.Core.Logic.{⊎-elim}
-use lib.ListN.{length}
-use lib.Dec.{eqb, ltb}
-use borrow.Author.Tests.{eqb-true, eqb-false, ltb-true, ltb-false}
-use Rattle.text.specs.Newlines.{firstLine}
-use Rattle.words.proofs.TestLaws.{true-or-false}
-use Rattle.text.proofs.DigitLaws.{both-of}
 use Rattle.session.proofs.CallLaws.{held-count-cut, held-count-whole}
 use Rattle.session.proofs.holding.held_count.Statement.{statement}
 use Rattle.session.proofs.holding.held_count.Tie as tie

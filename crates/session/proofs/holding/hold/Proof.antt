@@ -1,9 +1,8 @@
 -- What is held is counted, and brought down.
-use mathlib.Core.Path.{_≡_, refl, sym, ap, _∙_}
 use native.Mathlib.Omega.{arith}
 use borrow.Author.Needs.{needs}
 use Prim.Native.Nat.{_-_}
-use lib.ListN.{length, take, drop, length-take, length-drop}
+use lib.ListN.{take, drop, length-take, length-drop}
 use Rattle.session.proofs.CallLaws.{held-within, held-home}
 use Rattle.session.proofs.holding.hold.Statement.{statement}
 use Rattle.session.proofs.holding.hold.Tie as tie

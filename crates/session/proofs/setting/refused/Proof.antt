@@ -1,8 +1,6 @@
 -- An empty chassis comes with any refusal.
-use mathlib.Core.Path.{_≡_, refl, sym, ap, _∙_}
+use mathlib.Core.Path.{refl}
 use borrow.Author.Needs.{needs}
-use Rattle.bus.specs.declared.state.SetupAnswer.{SetupAnswer}
-use Rattle.session.specs.World.{refusedAs}
 use Rattle.session.proofs.CallLaws.{nothing-set-up}
 use Rattle.session.proofs.setting.refused.Statement.{statement}
 use Rattle.session.proofs.setting.refused.Tie as tie

@@ -1,5 +1,5 @@
 -- By the answer.
-use mathlib.Core.Path.{_≡_, refl, sym, ap, _∙_}
+use mathlib.Core.Path.{refl}
 use borrow.Author.Tests.{eq-eqb, ne-eqb}
 use Rattle.session.proofs.setting.stage_after.Statement.{statement}
 use Rattle.session.proofs.setting.stage_after.Tie as tie

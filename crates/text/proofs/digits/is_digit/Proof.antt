@@ -1,7 +1,6 @@
 -- A bit of a constant says which bytes are digits.
 use mathlib.Core.Path.{sym}
 use native.Mathlib.Omega.{arith}
-use borrow.Author.Needs.{needs}
 use Rattle.text.proofs.DigitLaws.{within, digit-bit, outside}
 use Rattle.text.proofs.digits.is_digit.Statement.{statement}
 use Rattle.text.proofs.digits.is_digit.Tie as tie

@@ -1,10 +1,8 @@
 -- Before the bytes that are left no newline was met.
 use Prim.Native.Nat.{_≤_, _-_, _+_, suc}
 use mathlib.Core.Path.{_≡_, ap, _∙_}
-use mathlib.Core.List.{List}
 use Prim.Native.Nat.{ℕ}
 use native.Mathlib.Omega.{arith}
-use borrow.Author.Needs.{needs}
 use lib.ListN.{length, drop}
 use Rattle.text.specs.Newlines.{firstLine}
 use Rattle.text.proofs.NewlineLaws.{line-at, line-on, line-none}

@@ -1,11 +1,10 @@
 -- The pages passed stand for their digits.
 use Prim.Native.Nat.{_≤_, _-_, _+_, suc}
 use mathlib.Core.Path.{_≡_, refl, sym, ap, _∙_}
-use mathlib.Core.List.{List, map}
+use mathlib.Core.List.{map}
 use Prim.Native.Nat.{ℕ}
 use native.Mathlib.Omega.{arith}
-use borrow.Author.Needs.{needs}
-use lib.ListN.{length, take, set, getD, length-set}
+use lib.ListN.{length, take, length-set}
 use lib.Seq.{take-all}
 use Rattle.words.proofs.ListLaws.{every-at}
 use Rattle.text.specs.Digits.{isDigit, valueOf}

@@ -1,11 +1,11 @@
 -- Two pairs, and the newline.
-use mathlib.Core.Path.{_≡_, refl, sym, ap, _∙_}
+use mathlib.Core.Path.{ap, _∙_}
 use borrow.Author.Needs.{needs}
 use mathlib.Core.List.{List}
 use Prim.Native.Nat.{ℕ}
 use lib.Seq.{sets}
 use Rattle.text.specs.Digits.{digitsOf}
-use Prim.Native.Nat.{_/_, _%_}
+use Prim.Native.Nat.{_%_}
 use mathlib.Core.List.{_++_, _∷_, []}
 use lib.ListN.{set, length-set}
 use Rattle.text.specs.Newlines.{newline}

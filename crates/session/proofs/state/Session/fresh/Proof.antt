@@ -1,5 +1,5 @@
 -- An empty chassis.
-use mathlib.Core.Path.{_≡_, refl, sym, ap, _∙_}
+use mathlib.Core.Path.{refl}
 use borrow.Author.Needs.{needs}
 use Rattle.session.proofs.CallLaws.{nothing-set-up}
 use Rattle.session.proofs.state.Session.fresh.Statement.{statement}

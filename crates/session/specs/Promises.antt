@@ -1,0 +1,118 @@
+-- What is promised of a run of the text program. The proof of each stands in proofs/ under its name in lower case, with hyphens.
+use Prim.Native.Nat.{ℕ, _+_, _*_, _<_, _≤_}
+use mathlib.Core.Path.{_≡_}
+use mathlib.Core.Logic.{_⊎_}
+use mathlib.Core.Bool.{true, false, cond}
+use mathlib.Core.List.{List, [], _∷_, _++_}
+use lib.Dec.{eqb}
+use lib.ListN.{length, take}
+use Rattle.bus.specs.Refusal as Refusal
+use Rattle.bus.specs.Sense.{makesSense}
+use Rattle.bus.specs.Setup.{emptyBus}
+use Rattle.bus.specs.declared.state.Bus.{Bus}
+use Rattle.judgement.specs.Refusals.{hasWrongBuffers}
+use Rattle.events.specs.Machine.{Machine}
+use Rattle.events.specs.Answers.{bare}
+use Rattle.events.specs.Step.{refusalIn, after, answerTo}
+use Rattle.text.specs.Digits.{isDigits}
+use Rattle.text.specs.Newlines.{newline, hasNewline, linesOf}
+use Rattle.text.specs.Frames.{eventDigits, eventIn, setupIn, longest}
+use Rattle.text.specs.AnswerLine.{answerLine, answerLength}
+use Rattle.text.specs.Reading.{heldOf}
+use Rattle.session.specs.World.{World, world, says, turns, setUpBy, freshWorld}
+use Rattle.session.specs.Feeding.{takes, feedRefusal, fedOf, textLeft, outLeft, worldLeft, finishedOf, finishedOut}
+use Rattle.session.specs.Output.{answers, output}
+use Rattle.session.specs.Chunks.{fedAll, wholeText, begun}
+use Rattle.session.specs.declared.state.Stage.the-variants.{Awaiting, Running, Ended}
+
+-- ---- What a line is answered, and where it leads
+
+-- Once the bus is set up, a right line takes the step of its event and is answered with that step's answer;
+abbrev pub EventTakesItsStep : Type 0
+EventTakesItsStep =
+    (m : Machine) (line : List ℕ) → isDigits eventDigits line ≡ true
+    → (says (world Running (m .bus) (m .memory) (m .ports)) line ≡ answerLine (answerTo m (eventIn line)))
+    × (turns (world Running (m .bus) (m .memory) (m .ports)) line
+    ≡ world Running (after m (eventIn line) .bus) (after m (eventIn line) .memory) (after m (eventIn line) .ports))
+
+-- a line that is wrong in any way, whatever its length, is answered with 0C and zeros.
+abbrev pub BadLineAnswers : Type 0
+BadLineAnswers =
+    (m : Machine) (line : List ℕ) → isDigits eventDigits line ≡ false
+    → says (world Running (m .bus) (m .memory) (m .ports)) line ≡ answerLine (bare Refusal.badLine)
+
+-- A line that is refused, as bad or as an event, leaves state, memory and ports as they were.
+abbrev pub RefusedLineKeeps : Type 0
+RefusedLineKeeps =
+    (m : Machine) (line : List ℕ) → (isDigits eventDigits line ≡ false) ⊎ (refusalIn m (eventIn line) ≡ Refusal.accepted → ⊥)
+    → turns (world Running (m .bus) (m .memory) (m .ports)) line ≡ world Running (m .bus) (m .memory) (m .ports)
+
+-- the number that a setup line is answered with
+abbrev pub setupNumber : List ℕ → ℕ
+setupNumber line = setUpBy (setupIn line) .answer
+
+-- A refused setup line is answered by its number and zeros, and nothing after it; it leaves an empty chassis, and memory and ports alone.
+abbrev pub RefusedSetupEnds : Type 0
+RefusedSetupEnds =
+    (bus : Bus) (memory ports line : List ℕ) (lines : List (List ℕ)) → (setupNumber line ≡ Refusal.accepted → ⊥)
+    → (answers (world Awaiting bus memory ports) (line ∷ lines) ≡ answerLine (bare (setupNumber line)))
+    × (turns (world Awaiting bus memory ports) line ≡ world Ended emptyBus memory ports)
+
+-- The rest of a line beyond one byte more than the longest right line has changes nothing.
+abbrev pub CutChangesNothing : Type 0
+CutChangesNothing =
+    (w : World) (line : List ℕ) → (says w (take (1 + longest) line) ≡ says w line) × (turns w (take (1 + longest) line) ≡ turns w line)
+
+-- ---- The whole output
+
+abbrev pub EmptyPrintsNothing : Type 0
+EmptyPrintsNothing = output [] ≡ []
+
+-- the lines that are answered: all of them, but only the first where setup is refused
+unfoldable pub answered : List (List ℕ) → ℕ
+answered [] = 0
+answered (line ∷ lines) = cond (eqb (setupNumber line) Refusal.accepted) (1 + length lines) 1
+
+-- One answer line for each line, up to a refused setup.
+abbrev pub OneAnswerALine : Type 0
+OneAnswerALine = (text : List ℕ) → length (output text) ≡ answered (linesOf text) * answerLength
+
+-- Whatever the lines, the state makes sense and the buffers keep their lengths, so that 01 and 02 are never answered.
+abbrev pub StaysSound : Type 0
+StaysSound =
+    (w : World) (line : List ℕ) → makesSense (w .session .bus) ≡ true → hasWrongBuffers (w .memory) (w .ports) ≡ false
+    → (makesSense (turns w line .session .bus) ≡ true) × (hasWrongBuffers (turns w line .memory) (turns w line .ports) ≡ false)
+
+abbrev pub FreshIsSound : Type 0
+FreshIsSound = (makesSense (freshWorld .session .bus) ≡ true) × (hasWrongBuffers (freshWorld .memory) (freshWorld .ports) ≡ false)
+
+-- ---- Chunks
+
+-- However the text is cut into chunks, and whatever room each call has: what was answered, with what the held text will be, is the output.
+abbrev pub AnyChunks : Type 0
+AnyChunks =
+    (calls : List (ℕ × List ℕ))
+    → fedAll begun calls .said ++ answers (fedAll begun calls .world) (linesOf (fedAll begun calls .held)) ≡ output (wholeText calls)
+
+-- A call that finds a newline in a session that goes on, and room for an answer, answers a line: so nothing complete stays held.
+abbrev pub CallsGoOn : Type 0
+CallsGoOn =
+    (w : World) (size : ℕ) (text : List ℕ) → hasNewline text ≡ true → answerLength ≤ size
+    → (w .session .stage ≡ Awaiting) ⊎ (w .session .stage ≡ Running) → 0 < length (takes size w text .said)
+
+-- ---- What the two functions do with their buffers
+
+-- An accepted feed writes the answers to the front of `out`, and holds the rest at the front of `text`.
+abbrev pub FedInPlace : Type 0
+FedInPlace =
+    (w : World) (text : List ℕ) (filled : ℕ) (out : List ℕ) → feedRefusal (w .session .bus) (w .memory) (w .ports) text filled ≡ Refusal.accepted
+    → (take (fedOf w text filled out .written) (outLeft w text filled out) ≡ takes (length out) w (take filled text) .said)
+    × ((take (fedOf w text filled out .held) (textLeft w text filled out) ≡ heldOf (takes (length out) w (take filled text) .rest))
+    × (worldLeft w text filled out ≡ takes (length out) w (take filled text) .state))
+
+-- At the end of the input an accepted finish writes what the held line is answered, where it holds no newline and has room for one.
+abbrev pub FinishedInPlace : Type 0
+FinishedInPlace =
+    (w : World) (text : List ℕ) (held : ℕ) (out : List ℕ) → feedRefusal (w .session .bus) (w .memory) (w .ports) text held ≡ Refusal.accepted
+    → held < length text → hasNewline (take held text) ≡ false → answerLength ≤ length out
+    → take (finishedOf w text held out .written) (finishedOut w text held out) ≡ answers w (linesOf (take held text))
