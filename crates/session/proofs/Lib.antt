@@ -1,4 +1,5 @@
 -- Laws that the functions' proofs cite, and the promises' proofs.
+pub mod AsComputed
 pub mod CallLaws
 pub mod LineLaws
 pub mod EventsLaws

@@ -4,3 +4,4 @@ pub mod Feeding
 pub mod Output
 pub mod Chunks
 pub mod Promises
+pub mod Examples

@@ -5,3 +5,4 @@ pub mod Frames
 pub mod AnswerLine
 pub mod Reading
 pub mod Promises
+pub mod Examples

@@ -1,0 +1,18 @@
+-- The outputs of specs/Examples, computed by the definitions.
+use mathlib.Core.Path.{refl}
+use Rattle.words.specs.Below.{allBelow, orBelow}
+use Rattle.words.specs.Among.{everyListed}
+use Rattle.lines.specs.Arbitration.{shown}
+use Rattle.text.specs.Digits.{numberAfter, digitsOf}
+use Rattle.text.specs.Newlines.{linesAfter, lastLine}
+use Rattle.text.specs.Reading.{answersTo}
+use Rattle.session.specs.World.{saysBy, turnsBy, freshWorld}
+use Rattle.session.specs.Examples.{SetupOutputs, BadLineOutputs}
+
+pub setup-outputs : SetupOutputs
+unfolding everyListed allBelow orBelow shown numberAfter digitsOf linesAfter lastLine answersTo saysBy turnsBy freshWorld
+setup-outputs = record { accepted = refl; unended = refl; page = refl; tooShort = refl; lowerCase = refl; blank = refl }
+
+pub bad-line-outputs : BadLineOutputs
+unfolding everyListed allBelow orBelow shown numberAfter digitsOf linesAfter lastLine answersTo saysBy turnsBy freshWorld
+bad-line-outputs = record { each = refl }

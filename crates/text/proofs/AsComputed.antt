@@ -1,0 +1,51 @@
+-- The lines and frames of specs/Examples, computed by the definitions.
+use mathlib.Core.Path.{refl}
+use Rattle.words.specs.Below.{allBelow}
+use Rattle.words.specs.Among.{everyListed}
+use Rattle.text.specs.Digits.{numberAfter, digitsOf}
+use Rattle.text.specs.Newlines.{hasNewline, firstLine, linesAfter, lastLine}
+use Rattle.text.specs.Examples.{DigitsAndNeighbours, EventLines, SetupLines, AnswerInPlace, LinesOfTexts, Held}
+
+pub digits-and-neighbours : DigitsAndNeighbours
+digits-and-neighbours = record {
+  belowZero = refl;
+  zeroToNine = (refl, refl);
+  aboveNine = (refl, refl);
+  aToF = (refl, refl);
+  aboveF = refl;
+  lowerCase = (refl, refl);
+  others = (refl, (refl, (refl, refl)));
+  values = (refl, (refl, (refl, refl)));
+  written = (refl, (refl, (refl, refl)));
+}
+
+pub event-lines : EventLines
+unfolding everyListed allBelow numberAfter hasNewline firstLine
+event-lines = record {
+  right = refl;
+  event = refl;
+  short = refl;
+  long = refl;
+  lower = refl;
+  frame = refl;
+  unended = refl;
+  bad = refl;
+  tooLong = refl;
+  empty = refl;
+}
+
+pub setup-lines : SetupLines
+unfolding everyListed allBelow numberAfter
+setup-lines = record { right = refl; anEvent = refl; tooLong = refl }
+
+pub answer-in-place : AnswerInPlace
+unfolding digitsOf
+answer-in-place = record { printed = refl }
+
+pub lines-of-texts : LinesOfTexts
+unfolding linesAfter lastLine
+lines-of-texts = record { nothing = refl; newlineAlone = refl; ended = refl; unended = refl; emptyBetween = refl; carriageReturn = refl }
+
+pub held : Held
+unfolding hasNewline
+held = record { twenty = refl; more = refl; lines = refl }

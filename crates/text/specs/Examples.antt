@@ -1,0 +1,98 @@
+-- Lines and frames written out: 01's own, and those that are nearly right.
+use Prim.Native.Nat.{ℕ}
+use mathlib.Core.Path.{_≡_}
+use mathlib.Core.Bool.{true, false}
+use mathlib.Core.List.{List, [], _∷_, _++_}
+use lib.ListN.{replicate}
+use Rattle.bus.specs.Refusal.{accepted, badLine}
+use Rattle.judgement.specs.Table.{eventOf}
+use Rattle.events.specs.declared.answers.Answer.{Answer}
+use Rattle.text.specs.declared.frames.Line.{Line}
+use Rattle.text.specs.Digits.{isDigit, valueOf, digitOf, isDigits}
+use Rattle.text.specs.Newlines.{newline, linesOf}
+use Rattle.text.specs.Frames.{eventIn, setupIn, nextLine}
+use Rattle.text.specs.AnswerLine.{answerLine}
+use Rattle.text.specs.Reading.{heldOf}
+
+-- ---- Digits, and the bytes beside them
+
+pub record DigitsAndNeighbours : Type 0 where
+  pub belowZero : isDigit 0x2F ≡ false
+  pub zeroToNine : (isDigit 0x30 ≡ true) × (isDigit 0x39 ≡ true)
+  pub aboveNine : (isDigit 0x3A ≡ false) × (isDigit 0x40 ≡ false)
+  pub aToF : (isDigit 0x41 ≡ true) × (isDigit 0x46 ≡ true)
+  pub aboveF : isDigit 0x47 ≡ false
+  pub lowerCase : (isDigit 0x61 ≡ false) × (isDigit 0x66 ≡ false)
+  pub others : (isDigit 0x00 ≡ false) × ((isDigit 0x0D ≡ false) × ((isDigit 0x20 ≡ false) × (isDigit 0xFF ≡ false)))
+  pub values : (valueOf 0x30 ≡ 0) × ((valueOf 0x39 ≡ 9) × ((valueOf 0x41 ≡ 10) × (valueOf 0x46 ≡ 15)))
+  pub written : (digitOf 0 ≡ 0x30) × ((digitOf 9 ≡ 0x39) × ((digitOf 10 ≡ 0x41) × (digitOf 15 ≡ 0x46)))
+
+-- ---- An event line, 0A030010001234, and a setup line, 000A1200000000000000 (01's printed run)
+
+abbrev pub wordWrite : List ℕ
+wordWrite = 0x30 ∷ 0x41 ∷ 0x30 ∷ 0x33 ∷ 0x30 ∷ 0x30 ∷ 0x31 ∷ 0x30 ∷ 0x30 ∷ 0x30 ∷ 0x31 ∷ 0x32 ∷ 0x33 ∷ 0x34 ∷ []
+
+-- a digit short, a digit long, and with a lower-case letter
+abbrev pub thirteen : List ℕ
+thirteen = 0x30 ∷ 0x41 ∷ 0x30 ∷ 0x33 ∷ 0x30 ∷ 0x30 ∷ 0x31 ∷ 0x30 ∷ 0x30 ∷ 0x30 ∷ 0x31 ∷ 0x32 ∷ 0x33 ∷ []
+
+abbrev pub fifteen : List ℕ
+fifteen = 0x30 ∷ 0x41 ∷ 0x30 ∷ 0x33 ∷ 0x30 ∷ 0x30 ∷ 0x31 ∷ 0x30 ∷ 0x30 ∷ 0x30 ∷ 0x31 ∷ 0x32 ∷ 0x33 ∷ 0x34 ∷ 0x30 ∷ []
+
+abbrev pub lowerA : List ℕ
+lowerA = 0x30 ∷ 0x61 ∷ 0x30 ∷ 0x33 ∷ 0x30 ∷ 0x30 ∷ 0x31 ∷ 0x30 ∷ 0x30 ∷ 0x30 ∷ 0x31 ∷ 0x32 ∷ 0x33 ∷ 0x34 ∷ []
+
+pub record EventLines : Type 0 where
+  pub right : isDigits 14 wordWrite ≡ true
+  pub event : eventIn wordWrite ≡ eventOf 0x0A 0x03 0x001000 0x1234
+  pub short : isDigits 14 thirteen ≡ false
+  pub long : isDigits 14 fifteen ≡ false
+  pub lower : isDigits 14 lowerA ≡ false
+  -- what a text begins with
+  pub frame : nextLine (wordWrite ++ newline ∷ 0x30 ∷ []) ≡ Line.Frame (eventOf 0x0A 0x03 0x001000 0x1234)
+  pub unended : nextLine wordWrite ≡ Line.Unended
+  pub bad : nextLine (thirteen ++ newline ∷ []) ≡ Line.Bad 13
+  pub tooLong : nextLine (fifteen ++ newline ∷ []) ≡ Line.Bad 15
+  pub empty : nextLine (newline ∷ wordWrite) ≡ Line.Bad 0
+
+abbrev pub setup : List ℕ
+setup = 0x30 ∷ 0x30 ∷ 0x30 ∷ 0x41 ∷ 0x31 ∷ 0x32 ∷ 0x30 ∷ 0x30 ∷ 0x30 ∷ 0x30 ∷ 0x30 ∷ 0x30 ∷ 0x30 ∷ 0x30 ∷ 0x30 ∷ 0x30 ∷ 0x30 ∷ 0x30 ∷ 0x30 ∷ 0x30 ∷ []
+
+pub record SetupLines : Type 0 where
+  pub right : setupIn setup ≡ record { refusal = accepted; fitted = 0x000A; pages = 1 ∷ 2 ∷ replicate 14 0 }
+  pub anEvent : setupIn wordWrite ≡ record { refusal = badLine; fitted = 0; pages = replicate 16 0 }
+  pub tooLong : setupIn (setup ++ 0x30 ∷ []) ≡ record { refusal = badLine; fitted = 0; pages = replicate 16 0 }
+
+-- ---- An answer line with every digit once
+
+abbrev pub eachDigit : Answer
+eachDigit = record {
+  refusal = 0x12;
+  phase = 0x34;
+  granted = 0x56;
+  lines = 0x78;
+  signals = 0x9A;
+  status = 0xBC;
+  cycles = 0xDE;
+  datum = 0xF012;
+}
+
+pub record AnswerInPlace : Type 0 where
+  pub printed : answerLine eachDigit
+      ≡ 0x31 ∷ 0x32 ∷ 0x33 ∷ 0x34 ∷ 0x35 ∷ 0x36 ∷ 0x37 ∷ 0x38 ∷ 0x39 ∷ 0x41 ∷ 0x42 ∷ 0x43 ∷ 0x44 ∷ 0x45 ∷ 0x46 ∷ 0x30 ∷ 0x31 ∷ 0x32 ∷ 0x0A ∷ []
+
+-- ---- Lines
+
+pub record LinesOfTexts : Type 0 where
+  pub nothing : linesOf [] ≡ []
+  pub newlineAlone : linesOf (newline ∷ []) ≡ [] ∷ []
+  pub ended : linesOf (0x41 ∷ newline ∷ []) ≡ (0x41 ∷ []) ∷ []
+  pub unended : linesOf (0x41 ∷ newline ∷ 0x42 ∷ []) ≡ (0x41 ∷ []) ∷ (0x42 ∷ []) ∷ []
+  pub emptyBetween : linesOf (0x41 ∷ newline ∷ newline ∷ 0x42 ∷ []) ≡ (0x41 ∷ []) ∷ [] ∷ (0x42 ∷ []) ∷ []
+  pub carriageReturn : linesOf (0x41 ∷ 0x0D ∷ newline ∷ []) ≡ (0x41 ∷ 0x0D ∷ []) ∷ []
+
+-- An unended line is held up to its twenty-first byte; a text with a newline is held whole.
+pub record Held : Type 0 where
+  pub twenty : heldOf (replicate 20 0x30) ≡ replicate 20 0x30
+  pub more : heldOf (replicate 30 0x30) ≡ replicate 21 0x30
+  pub lines : heldOf (replicate 30 0x30 ++ newline ∷ []) ≡ replicate 30 0x30 ++ newline ∷ []
