@@ -1,6 +1,7 @@
 -- The first reason that applies.
 use mathlib.Core.Path.{refl, sym, _∙_}
 use borrow.Author.Needs.{needs}
+use Rattle.words.proofs.TestLaws.{then-pick, else-pick}
 use Rattle.session.proofs.feeding.feed_refusal.Statement.{statement}
 use Rattle.session.proofs.feeding.feed_refusal.Tie as tie
 
@@ -9,6 +10,6 @@ feed-refusal-spec =
     tie.close
     (tie.spec
     (λ c κs. search needs)
-    (λ c. rw (c .if1 .taken) refl)
-    (λ c. rw (c .before .before .if1 .left, sym (c .before .makes-sense .ensures) ∙ c .if2 .taken) refl)
-    (λ c. rw (c .before .before .if1 .left, sym (c .before .makes-sense .ensures) ∙ c .if2 .left) refl))
+    (λ c. then-pick _ (c .if1 .taken) refl)
+    (λ c. else-pick _ (c .before .before .if1 .left) (then-pick _ (sym (c .before .makes-sense .ensures) ∙ c .if2 .taken) refl))
+    (λ c. else-pick _ (c .before .before .if1 .left) (else-pick _ (sym (c .before .makes-sense .ensures) ∙ c .if2 .left) refl)))
