@@ -1,5 +1,6 @@
 // The text program: it reads standard input, hands the session what came, and writes the answers to standard output.
 ghost use mathlib.Core.Path.{_≡_};
+ghost use lib.ListN.{take};
 use libc::STDIN_FILENO;
 use libc::STDOUT_FILENO;
 use session::Fed;
@@ -117,7 +118,10 @@ fn last(
     write_front(out, fed.written);
 }
 
-fn read_behind(text: &mut [u8], held: usize) -> Filled {
+// What is held stays in front of what is read.
+fn read_behind(text: &mut [u8], held: usize) -> Filled
+    ensures { λ _. ⌜ take held (now (text .exit)) ≡ take held (now (text .entry)) ⌝ }
+{
     if held < text.len() {
         let got = libc::read(STDIN_FILENO, &mut text[held..]);
         Filled {

@@ -1,0 +1,2 @@
+-- A law that a function's proof cites.
+pub mod FrontLaws
