@@ -1,5 +1,5 @@
 -- A text in chunks, and what the functions do with their buffers.
-use mathlib.Core.Path.{_≡_, refl, sym, ap, _∙_}
+use mathlib.Core.Path.{_≡_, refl, sym, ap, subst, _∙_}
 use mathlib.Core.Logic.{⊎-elim}
 use mathlib.Core.Bool.{true, false}
 use mathlib.Core.List.{List, [], _∷_, _++_, append-nil, append-assoc}
@@ -7,9 +7,11 @@ use Prim.Native.Nat.{ℕ, zero, suc, _+_, _*_, _/_, _<_, _≤_}
 use native.Mathlib.Omega.{arith}
 use lib.ListN.{length, take, drop, set, length-append}
 use lib.Seq.{sets, sets-eq, take-append-seam, take-suc-set}
-use borrow.Author.Tests.{eq-eqb, lt-ltb}
+use borrow.Author.Tests.{eq-eqb, lt-ltb, le-ltb}
 use Rattle.words.proofs.TestLaws.{true-or-false}
 use Rattle.bus.specs.Refusal as Refusal
+use Rattle.bus.specs.Sense.{makesSense}
+use Rattle.judgement.specs.Refusals.{hasWrongBuffers}
 use Rattle.text.specs.Newlines.{newline, hasNewline, firstLine, restOf, linesOf}
 use Rattle.text.specs.Frames.{setupIn}
 use Rattle.text.specs.AnswerLine.{answerLength}
@@ -20,10 +22,10 @@ use Rattle.session.specs.World.{World, world, says, turns, saysBy, event
 use Rattle.session.specs.Feeding.{takes, linesFor, feedRefusal, takesLast, endedText, endedAt}
 use Rattle.session.specs.Output.{answers}
 use Rattle.session.specs.Chunks.{Run, fedWith, fedAll, wholeText, begun}
-use Rattle.session.specs.Promises.{AnyChunks, CallsGoOn, FedInPlace, FinishedInPlace}
+use Rattle.session.specs.Promises.{AnyChunks, CallsGoOn, FedInPlace, FinishedInPlace, WholeRun}
 use Rattle.session.specs.declared.state.Stage.{Stage}
 use Rattle.session.specs.declared.state.Stage.the-variants.{Awaiting, Running, Ended}
-use Rattle.session.proofs.RunPromises.{cut-changes-nothing, one-said, none-said}
+use Rattle.session.proofs.RunPromises.{cut-changes-nothing, one-said, none-said, stays-sound, fresh-is-sound}
 
 -- ---- Chunks
 
@@ -187,3 +189,38 @@ finished-in-place w text held out accepted within none room =
     rw (eq-eqb (feedRefusal (w .session .bus) (w .memory) (w .ports) text held) Refusal.accepted accepted) (
     put-front out (takesLast (length out) w text held .said) (said-fits (length out) w (take (endedAt text held) (endedText text held)))
     ∙ finished-said w text held (length out) within none room)
+
+-- ---- A whole run
+
+-- a sensible state, and buffers of the right lengths
+abbrev Sound : World → Type 0
+Sound w = (makesSense (w .session .bus) ≡ true) × (hasWrongBuffers (w .memory) (w .ports) ≡ false)
+
+taken-sound : (n : ℕ) (w : World) (text : List ℕ) → Sound w → Sound (takenOff says turns n w text .state)
+taken-sound zero w text s = rw (none-taken says turns w text) s
+taken-sound (suc n) w text s =
+    ⊎-elim
+    (λ (has : hasNewline text ≡ true).
+    rw (taken-line says turns n w text has) (
+    taken-sound n (turns w (firstLine text)) (restOf text) (stays-sound w (firstLine text) (s .0) (s .1))))
+    (λ (none : hasNewline text ≡ false). rw (taken-none says turns (suc n) w text none) s)
+    (true-or-false (hasNewline text))
+
+fed-sound : (calls : List (ℕ × List ℕ)) (r : Run) → Sound (r .world) → Sound (fedAll r calls .world)
+unfolding fedAll
+fed-sound [] r s = s
+fed-sound (call ∷ calls) r s =
+    fed-sound calls (fedWith r (call .0) (call .1))
+    (taken-sound (linesFor (r .world .session .stage) (call .0 / answerLength)) (r .world) (r .held ++ call .1) s)
+
+sound-accepted : (w : World) (text : List ℕ) (held : ℕ) → Sound w → held < length text → feedRefusal (w .session .bus) (w .memory) (w .ports) text held ≡ Refusal.accepted
+sound-accepted w text held s within = rw (s .1, le-ltb (length text) held (omega (arith, within)), s .0) refl
+
+pub whole-run : WholeRun
+whole-run calls text out same within none room =
+    let r = fedAll begun calls in
+    let accepted = sound-accepted (r .world) text (length (r .held)) (fed-sound calls begun fresh-is-sound) within in
+    let unended : hasNewline (take (length (r .held)) text) ≡ false = subst (λ (l : List ℕ). hasNewline l ≡ false) (sym same) none in
+    ap (λ (l : List ℕ). r .said ++ l) (
+    finished-in-place (r .world) text (length (r .held)) out accepted within unended room ∙ ap (λ (l : List ℕ). answers (r .world) (linesOf l)) same)
+    ∙ any-chunks calls

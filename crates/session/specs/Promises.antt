@@ -116,3 +116,14 @@ FinishedInPlace =
     (w : World) (text : List ℕ) (held : ℕ) (out : List ℕ) → feedRefusal (w .session .bus) (w .memory) (w .ports) text held ≡ Refusal.accepted
     → held < length text → hasNewline (take held text) ≡ false → answerLength ≤ length out
     → take (finishedOf w text held out .written) (finishedOut w text held out) ≡ answers w (linesOf (take held text))
+
+-- So a whole run prints the output: calls on any chunks until no newline is held, and then a finish on a text that holds the rest and has
+-- room for a newline, with room for an answer.
+abbrev pub WholeRun : Type 0
+WholeRun =
+    (calls : List (ℕ × List ℕ)) (text out : List ℕ) → take (length (fedAll begun calls .held)) text ≡ fedAll begun calls .held
+    → length (fedAll begun calls .held) < length text → hasNewline (fedAll begun calls .held) ≡ false → answerLength ≤ length out
+    → fedAll begun calls .said
+    ++ take (finishedOf (fedAll begun calls .world) text (length (fedAll begun calls .held)) out .written)
+    (finishedOut (fedAll begun calls .world) text (length (fedAll begun calls .held)) out)
+    ≡ output (wholeText calls)
