@@ -12,6 +12,7 @@ use crate::state::Session;
 use crate::taking::take_lines;
 use bus::Bus;
 use bus::numbers::*;
+use text::NEWLINE;
 
 // The session after a call, how many bytes of text are held at its front, and how many bytes of answers were written.
 pub struct Fed {
@@ -127,7 +128,7 @@ fn end_line(text: &mut [u8], held: usize) -> usize
     ensures text_left { λ _. ⌜ now (text .exit) ≡ endedText (now (text .entry)) held ⌝ }
 {
     if (0 < held) & (held < text.len()) {
-        text[held] = 0x0A;
+        text[held] = NEWLINE;
         held + 1
     } else {
         held

@@ -5,7 +5,11 @@ ghost use Prim.Native.Nat.{_+_, _≤_};
 ghost use lib.ListN.{length, take, drop};
 ghost use lib.Seq.{paste};
 ghost use Rattle.text.specs.Reading.{heldOf};
+use text::SETUP_DIGITS;
 use text::line_end;
+
+// One byte more than the longest right line has.
+const HELD: usize = SETUP_DIGITS + 1;
 
 // The bytes from one place to another go to the front, but a line that isn't ended is cut.
 pub fn hold(text: &mut [u8], from: usize, filled: usize) -> usize
@@ -23,8 +27,8 @@ fn held_count(rest: &[u8]) -> usize
     ensures { λ r. ⌜ r ≡ length (heldOf (now (rest .entry))) ⌝ }
 {
     let size = rest.len();
-    if (line_end(rest) == size) & (21 < size) {
-        21
+    if (line_end(rest) == size) & (HELD < size) {
+        HELD
     } else {
         size
     }

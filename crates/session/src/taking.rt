@@ -21,10 +21,15 @@ use bus::Bus;
 use bus::numbers::*;
 use events::bare;
 use events::sound_step;
+use text::ANSWER_LENGTH;
+use text::EVENT_DIGITS;
 use text::Line;
 use text::line_end;
 use text::next_line;
 use text::put_answer;
+
+// An event line with its newline.
+const EVENT_BYTES: usize = EVENT_DIGITS + 1;
 
 // The session after some lines, the bytes of text that they had, and the bytes written.
 pub struct TakenLines {
@@ -72,7 +77,7 @@ fn take_setup(bus: Bus, text: &[u8], out: &mut [u8]) -> TakenLines
     ensures out_left { λ _. ⌜ now (out .exit) ≡ sets (now (out .entry)) 0 (takes (length (now (out .entry))) (world Awaiting bus [] []) (now (text .entry)) .said) ⌝ }
 {
     let end = line_end(text);
-    if (end < text.len()) & (19 <= out.len()) {
+    if (end < text.len()) & (ANSWER_LENGTH <= out.len()) {
         let given = set_up(&text[..end]);
         put_answer(setup_answer(given), out);
         let bus = given.bus;
@@ -82,7 +87,7 @@ fn take_setup(bus: Bus, text: &[u8], out: &mut [u8]) -> TakenLines
                 bus: bus,
             },
             used: end + 1,
-            written: 19,
+            written: ANSWER_LENGTH,
         }
     } else {
         TakenLines {
@@ -115,7 +120,7 @@ fn take_events(
     let mut rest = text;
     let mut used: usize = 0;
     let mut written: usize = 0;
-    while 19 <= out.len() - written {
+    while ANSWER_LENGTH <= out.len() - written {
         let line = take_event(bus, rest, &mut out[written..], memory, ports);
         let size = line.used;
         if size == 0 {
@@ -124,7 +129,7 @@ fn take_events(
         bus = line.bus;
         rest = &rest[size..];
         used += size;
-        written += 19;
+        written += ANSWER_LENGTH;
     }
     TakenLines {
         session: Session {
@@ -161,7 +166,7 @@ fn take_event(
             put_answer(answer, out);
             EventLine {
                 bus: next,
-                used: 15,
+                used: EVENT_BYTES,
             }
         }
         Line::Bad(size) => {

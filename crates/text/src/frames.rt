@@ -12,7 +12,14 @@ use crate::digits::value;
 use bus::numbers::*;
 use judgement::Event;
 
-const NEWLINE: u8 = 0x0A;
+// The byte that ends a line.
+pub const NEWLINE: u8 = 0x0A;
+
+// Kind 2, speaker 2, address 6, datum 4.
+pub const EVENT_DIGITS: usize = 14;
+
+// The fitted set 4, the pages 16. No right line is longer.
+pub const SETUP_DIGITS: usize = 20;
 
 // What a text begins with.
 pub enum Line {
@@ -50,7 +57,7 @@ pub fn next_line(text: &[u8]) -> Line
     ensures { λ r. ⌜ r ≡ nextLine (now (text .entry)) ⌝ }
 {
     if leads_frame(text) {
-        Line::Frame(event_in(&text[..14]))
+        Line::Frame(event_in(&text[..EVENT_DIGITS]))
     } else {
         let end = line_end(text);
         if end < text.len() {
@@ -64,9 +71,9 @@ pub fn next_line(text: &[u8]) -> Line
 fn leads_frame(text: &[u8]) -> bool
     ensures { λ r. ⌜ r ≡ (hasNewline (now (text .entry)) && isDigits eventDigits (firstLine (now (text .entry)))) ⌝ }
 {
-    if 14 < text.len() {
-        if text[14] == NEWLINE {
-            return all_digits(&text[..14]);
+    if EVENT_DIGITS < text.len() {
+        if text[EVENT_DIGITS] == NEWLINE {
+            return all_digits(&text[..EVENT_DIGITS]);
         }
     }
     false
@@ -109,7 +116,7 @@ fn four(line: &[u8], at: usize) -> u16
 pub fn setup_line(line: &[u8]) -> SetupLine
     ensures { λ r. ⌜ r ≡ setupIn (now (line .entry)) ⌝ }
 {
-    if line.len() == 20 {
+    if line.len() == SETUP_DIGITS {
         if all_digits(line) {
             return SetupLine {
                 refusal: ACCEPTED,

@@ -10,13 +10,17 @@ ghost use Rattle.text.specs.Digits.{digitsOf};
 ghost use Rattle.text.specs.Newlines.{newline};
 ghost use Rattle.text.specs.AnswerLine.{answerLine, answerLength, printed};
 use crate::digits::digit;
+use crate::frames::NEWLINE;
 use events::Answer;
+
+// Eighteen digits and a newline.
+pub const ANSWER_LENGTH: usize = 19;
 
 // At the front of a place that is long enough; a shorter one is left alone.
 pub fn put_answer(answer: Answer, out: &mut [u8])
     ensures { λ _. ⌜ now (out .exit) ≡ printed answer (now (out .entry)) ⌝ }
 {
-    if 19 <= out.len() {
+    if ANSWER_LENGTH <= out.len() {
         put_bus(answer, out);
         put_cycle(answer, out);
         put_datum(answer.datum, out);
@@ -58,5 +62,5 @@ fn put_datum(datum: u16, out: &mut [u8])
 {
     put_two(out, 14, (datum / 256) as u8);
     put_two(out, 16, (datum % 256) as u8);
-    out[18] = 0x0A;
+    out[18] = NEWLINE;
 }
