@@ -3,7 +3,6 @@ ghost use mathlib.Core.Path.{_≡_};
 ghost use lib.ListN.{take};
 use libc::STDIN_FILENO;
 use libc::STDOUT_FILENO;
-use session::Fed;
 use session::Session;
 use session::Stage;
 use session::feed;
@@ -11,7 +10,7 @@ use session::finish;
 
 // How the program goes on.
 enum Next {
-    Read,
+    Feed,
     // The input has ended.
     Finish,
     // Reading or writing failed, or the run is over.
@@ -20,13 +19,16 @@ enum Next {
 
 struct Turn {
     next: Next,
+    // Nothing complete is held, so that more has to be read.
+    reads: bool,
     session: Session,
     held: usize,
 }
 
-// What is in the text after a read behind what is held.
+// What is in the text before a call.
 struct Filled {
     failed: bool,
+    ended: bool,
     size: usize,
 }
 
@@ -46,13 +48,15 @@ fn take_turns(text: &mut [u8], out: &mut [u8], memory: &mut [u8], ports: &mut [u
     let mut left = u64::MAX;
     let mut session = Session::fresh();
     let mut held: usize = 0;
+    let mut reads = true;
     while 0 < left {
-        let at = take_turn(session, held, text, out, memory, ports);
+        let at = take_turn(session, held, reads, text, out, memory, ports);
         session = at.session;
         held = at.held;
+        reads = at.reads;
         let next = at.next;
         match next {
-            Next::Read => {
+            Next::Feed => {
                 left -= 1;
             }
             Next::Finish => {
@@ -66,34 +70,36 @@ fn take_turns(text: &mut [u8], out: &mut [u8], memory: &mut [u8], ports: &mut [u
     }
 }
 
+// It reads only once every complete line is answered, so that nobody waits for an answer while the program waits for more.
 fn take_turn(
     session: Session,
     held: usize,
+    reads: bool,
     text: &mut [u8],
     out: &mut [u8],
     memory: &mut [u8],
     ports: &mut [u8],
 ) -> Turn {
-    let filled = read_behind(text, held);
+    let filled = fill(text, held, reads);
     let fed = feed(session, text, filled.size, out, memory, ports);
     let is_written = write_front(out, fed.written);
     let next = fed.session;
+    let stage = next.stage;
     Turn {
-        next: after(filled, held, fed, is_written),
+        next: after(filled, stage, is_written),
+        reads: fed.written == 0,
         session: next,
         held: fed.held,
     }
 }
 
-fn after(filled: Filled, held: usize, fed: Fed, is_written: bool) -> Next {
-    let session = fed.session;
-    let stage = session.stage;
+fn after(filled: Filled, stage: Stage, is_written: bool) -> Next {
     if filled.failed | !is_written | has_ended(stage) {
         Next::Stop
-    } else if (filled.size == held) & (fed.written == 0) {
+    } else if filled.ended {
         Next::Finish
     } else {
-        Next::Read
+        Next::Feed
     }
 }
 
@@ -118,6 +124,20 @@ fn last(
     write_front(out, fed.written);
 }
 
+fn fill(text: &mut [u8], held: usize, reads: bool) -> Filled
+    ensures { λ _. ⌜ take held (now (text .exit)) ≡ take held (now (text .entry)) ⌝ }
+{
+    if reads {
+        read_behind(text, held)
+    } else {
+        Filled {
+            failed: false,
+            ended: false,
+            size: held,
+        }
+    }
+}
+
 // What is held stays in front of what is read.
 fn read_behind(text: &mut [u8], held: usize) -> Filled
     ensures { λ _. ⌜ take held (now (text .exit)) ≡ take held (now (text .entry)) ⌝ }
@@ -126,11 +146,13 @@ fn read_behind(text: &mut [u8], held: usize) -> Filled
         let got = libc::read(STDIN_FILENO, &mut text[held..]);
         Filled {
             failed: got < 0,
+            ended: got == 0,
             size: held + io::count(got, &text[held..]),
         }
     } else {
         Filled {
-            failed: false,
+            failed: true,
+            ended: false,
             size: held,
         }
     }
