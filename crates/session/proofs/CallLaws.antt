@@ -112,3 +112,9 @@ held-home text from filled count h k e text' left =
   where
     none : (n : ℕ) → 0 + n ≡ n
     none n = omega arith
+
+-- ---- The end of the input
+
+pub held-bounds : (text : List ℕ) (held : ℕ) → (ltb 0 held && ltb held (length text)) ≡ true → (0 < held) × (held < length text)
+held-bounds text held e =
+    let both = both-of (ltb 0 held) (ltb held (length text)) e in (ltb-true 0 held (both .0), ltb-true held (length text) (both .1))

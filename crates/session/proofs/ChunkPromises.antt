@@ -3,11 +3,11 @@ use mathlib.Core.Path.{_≡_, refl, sym, ap, subst, _∙_}
 use mathlib.Core.Logic.{⊎-elim}
 use mathlib.Core.Bool.{true, false}
 use mathlib.Core.List.{List, [], _∷_, _++_, append-nil, append-assoc}
-use Prim.Native.Nat.{ℕ, zero, suc, _+_, _*_, _/_, _<_, _≤_}
+use Prim.Native.Nat.{ℕ, zero, suc, _+_, _*_, _-_, _/_, _<_, _≤_}
 use native.Mathlib.Omega.{arith}
-use lib.ListN.{length, take, drop, set, length-append}
-use lib.Seq.{sets, sets-eq, take-append-seam, take-suc-set}
-use borrow.Author.Tests.{eq-eqb, lt-ltb, le-ltb}
+use lib.ListN.{length, getD, take, drop, set, length-append}
+use lib.Seq.{sets, sets-eq, take-append-seam, take-suc-set, getD-take, length-take-le}
+use borrow.Author.Tests.{eq-eqb, ne-eqb, lt-ltb, le-ltb}
 use Rattle.words.proofs.TestLaws.{true-or-false}
 use Rattle.bus.specs.Refusal as Refusal
 use Rattle.bus.specs.Sense.{makesSense}
@@ -16,6 +16,7 @@ use Rattle.text.specs.Newlines.{newline, hasNewline, firstLine, restOf, linesOf
 use Rattle.text.specs.Frames.{setupIn}
 use Rattle.text.specs.AnswerLine.{answerLength}
 use Rattle.text.specs.Reading.{Taken, takenOff, heldOf}
+use Rattle.text.proofs.NewlineLaws.{none-at}
 use Rattle.text.proofs.LinePromises.{taken-is-the-whole, held-is-enough, line-unended, ended-line, no-newline, last-of, last-none}
 use Rattle.text.proofs.ReadingLaws.{taken-line, taken-none, none-taken, answer-long}
 use Rattle.session.specs.World.{World, world, says, turns, saysBy, eventAnswer, machineOf, setupAnswer, setUpBy}
@@ -168,10 +169,15 @@ last-takes size w line none room = go (w .session .stage) refl
         ∙ sym (alone ∙ ended-says w e line)
 
 -- the text that the end of the input has ended
-ended-take : (text : List ℕ) (held : ℕ) → 0 < held → held < length text → take (endedAt text held) (endedText text held) ≡ take held text ++ newline ∷ []
-ended-take text held some within =
+ended-take : (text : List ℕ) (held : ℕ) → 0 < held → held < length text → hasNewline (take held text) ≡ false
+    → take (endedAt text held) (endedText text held) ≡ take held text ++ newline ∷ []
+ended-take text held some within none =
     let one : held + 1 ≡ suc held = omega arith in
-    rw (lt-ltb 0 held some, lt-ltb held (length text) within) (ap (λ (k : ℕ). take k (set text held newline)) one ∙ take-suc-set text held newline within)
+    let size : length (take held text) ≡ held = length-take-le held text (omega (arith, within)) in
+    let last : getD text (held - 1) 0 ≡ newline → ⊥ =
+    λ e. none-at (take held text) none (held - 1) (omega (arith, some, size)) (getD-take held text (held - 1) 0 (omega (arith, some)) ∙ e) in
+    rw (lt-ltb 0 held some, lt-ltb held (length text) within, ne-eqb (getD text (held - 1) 0) newline last) (
+    ap (λ (k : ℕ). take k (set text held newline)) one ∙ take-suc-set text held newline within)
 
 finished-said : (w : World) (text : List ℕ) (held size : ℕ) → held < length text → hasNewline (take held text) ≡ false → 19 ≤ size
     → takesLast size w text held .said ≡ answers w (linesOf (take held text))
@@ -180,7 +186,7 @@ finished-said w text zero size within none room =
     ∙ sym (ap (answers w) (line-unended [] no-newline ∙ last-none) ∙ none-said w)
 finished-said w [] (suc k) size within none room = absurd (omega (arith, within))
 finished-said w (b ∷ text) (suc k) size within none room =
-    ap (λ (l : List ℕ). takes size w l .said) (ended-take (b ∷ text) (suc k) (omega arith) within)
+    ap (λ (l : List ℕ). takes size w l .said) (ended-take (b ∷ text) (suc k) (omega arith) within none)
     ∙ last-takes size w (take (suc k) (b ∷ text)) none room
     ∙ ap (answers w) (sym (line-unended (take (suc k) (b ∷ text)) none ∙ last-of b (take k text)))
 

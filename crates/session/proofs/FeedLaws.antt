@@ -1,12 +1,12 @@
 -- A whole call: when it is refused, and what it tells and leaves.
 use mathlib.Core.Path.{_≡_, refl, sym, ap, subst, _∙_}
 use mathlib.Core.Logic.{⊎-elim}
-use mathlib.Core.Bool.{Bool, true, false, cond, _||_}
+use mathlib.Core.Bool.{Bool, true, false, cond, not, _&&_, _||_}
 use mathlib.Core.List.{List, _++_}
-use Prim.Native.Nat.{ℕ, _/_, _≤_}
+use Prim.Native.Nat.{ℕ, _-_, _/_, _≤_}
 use native.Mathlib.Omega.{arith}
-use lib.Dec.{ltb}
-use lib.ListN.{length, take, drop, length-set}
+use lib.Dec.{eqb, ltb}
+use lib.ListN.{length, getD, take, drop, length-set}
 use lib.Seq.{sets, length-take-le}
 use borrow.Author.Tests.{ltb-true, ltb-false}
 use Rattle.words.proofs.TestLaws.{true-or-false, neither-of}
@@ -89,7 +89,7 @@ pub ended-within : (text : List ℕ) (held : ℕ) → held ≤ length text → e
 ended-within text held h =
     ⊎-elim
     (λ (ends : isEnded text held ≡ true).
-    rw ends (omega (arith, length-set text held newline, ltb-true held (length text) (both-of (ltb 0 held) (ltb held (length text)) ends .1))))
+    rw ends (omega (arith, length-set text held newline, ltb-true held (length text) (both-of (ltb 0 held) (ltb held (length text)) (both-of (ltb 0 held && ltb held (length text)) (not (eqb (getD text (held - 1) 0) newline)) ends .0) .1))))
     (λ (goes-on : isEnded text held ≡ false). rw goes-on h)
     (true-or-false (isEnded text held))
 

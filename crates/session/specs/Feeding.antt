@@ -1,9 +1,9 @@
 -- A call that is given the text read so far: it answers the lines that have ended, as many as there is room for, and holds the rest.
-use Prim.Native.Nat.{ℕ, _+_, _/_, min}
-use mathlib.Core.Bool.{Bool, cond, _||_, _&&_}
+use Prim.Native.Nat.{ℕ, _+_, _-_, _/_, min}
+use mathlib.Core.Bool.{Bool, cond, _||_, _&&_, not}
 use mathlib.Core.List.{List, _++_}
 use lib.Dec.{eqb, ltb}
-use lib.ListN.{length, take, drop, set}
+use lib.ListN.{length, take, drop, set, getD}
 use lib.Seq.{sets}
 use Rattle.bus.specs.Refusal as Refusal
 use Rattle.bus.specs.Sense.{makesSense}
@@ -80,9 +80,9 @@ textLeft w text filled out = unlessRefused w text filled (heldIn text (takes (le
 
 -- ---- At the end of the input
 
--- It ends a line that is held, where there is one and room for a newline.
+-- It ends a line that is held, where there is one that no newline ends, and room for a newline.
 abbrev pub isEnded : List ℕ → ℕ → Bool
-isEnded text held = ltb 0 held && ltb held (length text)
+isEnded text held = ltb 0 held && ltb held (length text) && not (eqb (getD text (held - 1) 0) newline)
 
 abbrev pub endedText : List ℕ → ℕ → List ℕ
 endedText text held = cond (isEnded text held) (set text held newline) text

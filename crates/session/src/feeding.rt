@@ -99,7 +99,7 @@ fn feed_refusal(bus: Bus, text: &[u8], filled: usize, memory: &[u8], ports: &[u8
     }
 }
 
-// The end of the input ends the line that is held, as a newline would.
+// The end of the input ends the line that is held, as a newline would, unless one ends it already.
 pub fn finish(
     session: Session,
     text: &mut [u8],
@@ -128,8 +128,13 @@ fn end_line(text: &mut [u8], held: usize) -> usize
     ensures text_left { λ _. ⌜ now (text .exit) ≡ endedText (now (text .entry)) held ⌝ }
 {
     if (0 < held) & (held < text.len()) {
-        text[held] = NEWLINE;
-        held + 1
+        let last = text[held - 1];
+        if last == NEWLINE {
+            held
+        } else {
+            text[held] = NEWLINE;
+            held + 1
+        }
     } else {
         held
     }

@@ -3,12 +3,12 @@ use mathlib.Core.Path.{_≡_, refl, sym, ap, subst, _∙_}
 use mathlib.Core.Logic.{⊎-elim}
 use mathlib.Core.Bool.{true, false, false≢true}
 use mathlib.Core.List.{List, [], _∷_, _++_}
-use Prim.Native.Nat.{ℕ, suc, _<_}
+use Prim.Native.Nat.{ℕ, zero, suc, _<_}
 use native.Mathlib.Omega.{arith}
 use lib.Dec.{eqb}
 use lib.ListN.{length, getD, drop, length-append}
 use lib.Seq.{drop-cons, drop-length}
-use borrow.Author.Tests.{eqb-true, eq-eqb, ne-eqb}
+use borrow.Author.Tests.{eqb-true, eqb-false, eq-eqb, ne-eqb}
 use Rattle.words.proofs.TestLaws.{true-or-false, else-of, neither-of}
 use Rattle.text.specs.Newlines.{newline, hasNewline, firstLine, restOf}
 
@@ -57,3 +57,10 @@ line-on text i h e = ap (λ (l : List ℕ). length (firstLine l)) (drop-cons tex
 pub line-none : (text : List ℕ) → firstLine (drop (length text) text) ≡ []
 unfolding firstLine
 line-none text = ap firstLine (drop-length text)
+
+-- where there is no newline, no byte is one
+pub none-at : (text : List ℕ) → hasNewline text ≡ false → (i : ℕ) → i < length text → getD text i 0 ≡ newline → ⊥
+unfolding hasNewline
+none-at [] none i h e = omega (arith, h)
+none-at (b ∷ text) none zero h e = eqb-false b newline (neither-of (eqb b newline) (hasNewline text) none .0) e
+none-at (b ∷ text) none (suc i) h e = none-at text (neither-of (eqb b newline) (hasNewline text) none .1) i (omega (arith, h)) e
