@@ -44,3 +44,6 @@ answerIn line = record {
 -- what a place holds once the line is put at its front: a place that is too short is left alone
 abbrev pub printed : Answer → List ℕ → List ℕ
 printed a place = cond (leb answerLength (length place)) (sets place 0 (answerLine a)) place
+
+abbrev pub bytesPut : List ℕ → ℕ
+bytesPut place = cond (leb answerLength (length place)) answerLength 0

@@ -8,7 +8,7 @@ ghost use lib.ListN.{length};
 ghost use lib.Seq.{sets};
 ghost use Rattle.text.specs.Digits.{digitsOf};
 ghost use Rattle.text.specs.Newlines.{newline};
-ghost use Rattle.text.specs.AnswerLine.{answerLine, answerLength, printed};
+ghost use Rattle.text.specs.AnswerLine.{answerLength, bytesPut, printed};
 use crate::digits::digit;
 use crate::frames::NEWLINE;
 use events::Answer;
@@ -16,14 +16,18 @@ use events::Answer;
 // Eighteen digits and a newline.
 pub const ANSWER_LENGTH: usize = 19;
 
-// At the front of a place that is long enough; a shorter one is left alone.
-pub fn put_answer(answer: Answer, out: &mut [u8])
-    ensures { λ _. ⌜ now (out .exit) ≡ printed answer (now (out .entry)) ⌝ }
+// At the front of a place that is long enough; a shorter one is left alone. The bytes put.
+pub fn put_answer(answer: Answer, out: &mut [u8]) -> usize
+    ensures put { λ r. ⌜ r ≡ bytesPut (now (out .entry)) ⌝ }
+    ensures left { λ _. ⌜ now (out .exit) ≡ printed answer (now (out .entry)) ⌝ }
 {
     if ANSWER_LENGTH <= out.len() {
         put_bus(answer, out);
         put_cycle(answer, out);
         put_datum(answer.datum, out);
+        ANSWER_LENGTH
+    } else {
+        0
     }
 }
 

@@ -28,8 +28,8 @@ take-event-spec =
     (λ c. search needs)
     (λ c.
     frame-taken (c .before .before .before .before .before .before .before .before .before .before .before .before .before .before .before .before .before .before .before .before .before .args .bus) (c .before .before .before .before .before .before .before .before .before .before .before .before .before .before .before .before .before .before .before .before .before .args .memory .now) (c .before .before .before .before .before .before .before .before .before .before .before .before .before .before .before .before .before .before .before .before .before .args .ports .now) (c .before .before .before .before .before .before .before .before .before .before .before .before .before .before .before .before .before .before .before .before .before .args .rest .now) (c .before .before .before .before .before .before .before .before .before .before .before .before .before .before .before .before .before .before .before .before .before .args .out .now) _ (sym (c .before .before .before .before .before .before .before .before .before .before .before .before .before .before .line .given .1) ∙ c .before .before .before .before .before .before .before .before .before .before .before .before .before .before .before .before .next-line .ensures) (c .before .before .before .before .before .before .before .before .before .before .before .before .before .before .before .before .before .before .before .before .before .pre .0) (c .before .before .before .before .before .before .before .before .before .before .before .before .before .before .before .before .before .before .before .before .before .pre .1 .0) (c .before .before .before .before .before .before .before .before .before .before .before .before .before .before .before .before .before .before .before .before .before .pre .1 .1) _ _ _ _
-    (c .before .before .before .before .before .before .before .before .before .before .sound-step .ensures .0) (c .before .before .before .before .before .before .before .before .before .before .sound-step .ensures .1 .0) (c .before .before .before .before .before .before .before .before .before .before .sound-step .ensures .1 .1) (c .before .before .put-answer .ensures))
+    (c .before .before .before .before .before .before .before .before .before .before .sound-step .ensures .0) (c .before .before .before .before .before .before .before .before .before .before .sound-step .ensures .1 .0) (c .before .before .before .before .before .before .before .before .before .before .sound-step .ensures .1 .1) (c .before .before .put-answer .ensures .1))
     (λ c. search needs)
     (λ c.
-    bad-taken (c .before .before .before .before .before .before .before .before .before .before .before .before .before .args .bus) (c .before .before .before .before .before .before .before .before .before .before .before .before .before .args .memory .now) (c .before .before .before .before .before .before .before .before .before .before .before .before .before .args .ports .now) (c .before .before .before .before .before .before .before .before .before .before .before .before .before .args .rest .now) (c .before .before .before .before .before .before .before .before .before .before .before .before .before .args .out .now) _ (sym (c .before .before .before .before .before .before .line2 .given .1) ∙ c .before .before .before .before .before .before .before .before .next-line .ensures) (c .before .before .before .before .before .before .before .before .before .before .before .before .before .pre .0) _ _ (c .before .before .before .before .bare .ensures) (c .before .before .put-answer2 .ensures))
+    bad-taken (c .before .before .before .before .before .before .before .before .before .before .before .before .before .args .bus) (c .before .before .before .before .before .before .before .before .before .before .before .before .before .args .memory .now) (c .before .before .before .before .before .before .before .before .before .before .before .before .before .args .ports .now) (c .before .before .before .before .before .before .before .before .before .before .before .before .before .args .rest .now) (c .before .before .before .before .before .before .before .before .before .before .before .before .before .args .out .now) _ (sym (c .before .before .before .before .before .before .line2 .given .1) ∙ c .before .before .before .before .before .before .before .before .next-line .ensures) (c .before .before .before .before .before .before .before .before .before .before .before .before .before .pre .0) _ _ (c .before .before .before .before .bare .ensures) (c .before .before .put-answer2 .ensures .1))
     (λ c. none-ended (c .before .before .before .before .before .before .before .args .bus) (c .before .before .before .before .before .before .before .args .memory .now) (c .before .before .before .before .before .before .before .args .ports .now) (c .before .before .before .before .before .before .before .args .rest .now) (c .before .before .before .before .before .before .before .args .out .now) (sym (c .enum-told .given .1) ∙ c .before .before .next-line .ensures)))

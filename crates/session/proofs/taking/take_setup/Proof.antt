@@ -30,5 +30,5 @@ take-setup-spec =
     let room = leb-true 19 (length out) (both-of (ltb (c .before .before .before .before .before .before .before .before .before .before .line-end .result) (length (c .before .before .before .before .before .before .before .before .before .before .before .before .before .args .text .now))) (leb 19 (length (c .before .before .before .before .before .before .before .before .before .before .before .before .before .args .out .now))) (c .before .before .before .before .before .before .before .before .before .if1 .taken) .1) in
     rw (c .stage-after .ensures) (setup-taken (c .before .before .before .before .before .before .before .before .before .before .before .before .before .args .bus) (c .before .before .before .before .before .before .before .before .before .before .before .before .before .args .text .now) out (c .before .before .before .before .before .before .before .before .before .before .line-end .result) (c .before .before .before .before .before .before .before .set-up .result) (c .before .before .before .before .put-answer .last .1 .0)
     (c .before .before .before .before .before .before .before .before .before .before .line-end .ensures) (c .before .before .before .before .before .before .before .before .before .if1 .taken) (c .before .before .before .before .before .before .before .set-up .ensures)
-    (c .before .before .before .before .put-answer .ensures ∙ ap (λ a. printed a out) (c .before .before .before .before .before .before .setup-answer .ensures) ∙ printed-fits _ out room)))
+    (c .before .before .before .before .put-answer .ensures .1 ∙ ap (λ a. printed a out) (c .before .before .before .before .before .before .setup-answer .ensures) ∙ printed-fits _ out room)))
     (λ c. setup-not-taken (c .before .before .before .before .args .bus) (c .before .before .before .before .args .text .now) (c .before .before .before .before .args .out .now) (c .before .line-end .result) (c .before .line-end .ensures) (c .if1 .left)))

@@ -26,9 +26,14 @@ put-answer-spec =
     (λ c.
     let given = c .before .before .before .before .before .before .before .before .before .before .before .before .before .before .args in
     let a = given .answer in
-    then-pick (given .out .now) (le-leb 19 (length (given .out .now)) (omega arith)) (
-    c .before .before .put-datum .ensures
-    ∙ ap (λ (l : List ℕ). sets l 14 (digitsOf 4 (a .datum) ++ newline ∷ [])) (
-    c .before .before .before .before .before .before .put-cycle .ensures
-    ∙ ap (λ (l : List ℕ). sets l 8 (digitsOf 2 (a .signals) ++ digitsOf 2 (a .status) ++ digitsOf 2 (a .cycles))) (c .before .before .before .before .before .before .before .before .before .before .put-bus .ensures))))
-    (λ c. else-pick _ (lt-leb 19 (length (c .before .before .args .out .now)) (omega arith)) refl))
+    let room = le-leb 19 (length (given .out .now)) (omega arith) in (
+      then-pick 0 room refl,
+      then-pick (given .out .now) room (
+          c .before .before .put-datum .ensures
+          ∙ ap (λ (l : List ℕ). sets l 14 (digitsOf 4 (a .datum) ++ newline ∷ [])) (
+          c .before .before .before .before .before .before .put-cycle .ensures
+          ∙ ap (λ (l : List ℕ). sets l 8 (digitsOf 2 (a .signals) ++ digitsOf 2 (a .status) ++ digitsOf 2 (a .cycles))) (c .before .before .before .before .before .before .before .before .before .before .put-bus .ensures))),
+    ))
+    (λ c.
+    let small = lt-leb 19 (length (c .before .before .args .out .now)) (omega arith) in
+    (else-pick 19 small refl, else-pick _ small refl)))
