@@ -5,7 +5,7 @@ use mathlib.Core.Bool.{true, false}
 use mathlib.Core.List.{List, [], _∷_, _++_, append-nil, append-assoc}
 use Prim.Native.Nat.{ℕ, zero, suc, _+_, _*_, _-_, _/_, _<_, _≤_}
 use native.Mathlib.Omega.{arith}
-use lib.ListN.{length, getD, take, drop, set, length-append}
+use lib.ListN.{length, getD, take, drop, set, length-append, length-drop}
 use lib.Seq.{sets, sets-eq, take-append-seam, take-suc-set, getD-take, length-take-le}
 use borrow.Author.Tests.{eq-eqb, ne-eqb, lt-ltb, le-ltb}
 use Rattle.words.proofs.TestLaws.{true-or-false}
@@ -17,15 +17,17 @@ use Rattle.text.specs.Frames.{setupIn}
 use Rattle.text.specs.AnswerLine.{answerLength}
 use Rattle.text.specs.Reading.{Taken, takenOff, heldOf}
 use Rattle.text.proofs.NewlineLaws.{none-at}
-use Rattle.text.proofs.LinePromises.{taken-is-the-whole, held-is-enough, line-unended, ended-line, no-newline, last-of, last-none}
-use Rattle.text.proofs.ReadingLaws.{taken-line, taken-none, none-taken, answer-long}
+use Rattle.text.proofs.LinePromises.{taken-is-the-whole, held-is-enough, held-is-short, line-unended, ended-line, no-newline, last-of, last-none}
+use Rattle.text.proofs.ReadingLaws.{taken-line, taken-none, none-taken, answer-long, taken-rest, taken-used}
 use Rattle.session.specs.World.{World, world, says, turns, saysBy, eventAnswer, machineOf, setupAnswer, setUpBy}
 use Rattle.session.specs.Feeding.{takes, linesFor, feedRefusal, takesLast, endedText, endedAt}
 use Rattle.session.specs.Output.{answers}
 use Rattle.session.specs.Chunks.{Run, fedWith, fedAll, wholeText, begun}
-use Rattle.session.specs.Promises.{AnyChunks, CallsGoOn, FedInPlace, FinishedInPlace, WholeRun}
+use Rattle.session.specs.Promises.{AnyChunks, CallsGoOn, FedInPlace, RoomToRead, FinishedInPlace, WholeRun}
 use Rattle.session.specs.declared.state.Stage.{Stage}
 use Rattle.session.specs.declared.state.Stage.the-variants.{Awaiting, Running, Ended}
+use Rattle.session.proofs.CallLaws.{held-within}
+use Rattle.session.proofs.FeedLaws.{sound}
 use Rattle.session.proofs.RunPromises.{cut-changes-nothing, one-said, none-said, stays-sound, fresh-is-sound}
 
 -- ---- Chunks
@@ -126,6 +128,47 @@ calls-go-on w size text has room =
         let lines : linesFor (w .session .stage) (size / 19) ≡ linesFor stage (size / 19) = ap (λ (s : Stage). linesFor s (size / 19)) e in
         omega (arith, said, line-said (linesFor (w .session .stage) (size / 19)) w text has (omega (arith, some, lines)))
 
+-- ---- Room to read
+
+some-line : (w : World) → w .session .stage ≡ Awaiting → (size : ℕ) → 19 ≤ size → 0 < linesFor (w .session .stage) (size / 19)
+unfolding linesFor
+some-line w e size room = rw e (omega (arith, room))
+
+running-line : (w : World) → w .session .stage ≡ Running → (size : ℕ) → 19 ≤ size → 0 < linesFor (w .session .stage) (size / 19)
+unfolding linesFor
+running-line w e size room = rw e (omega (arith, room))
+
+-- a line that has ended takes some bytes off the text
+line-off : (n : ℕ) (w : World) (text : List ℕ) → hasNewline text ≡ true → 0 < n → 0 < takenOff says turns n w text .used
+line-off zero w text has some = absurd (omega (arith, some))
+line-off (suc n) w text has some = rw (taken-line says turns n w text has) (omega arith)
+
+held-less : (n : ℕ) (w : World) (text : List ℕ) (size : ℕ) → 0 < n → length text ≤ size → 21 < size → length (heldOf (takenOff says turns n w text .rest)) < size
+held-less n w text size some short long =
+    ⊎-elim
+    (λ (has : hasNewline text ≡ true).
+    omega (
+      arith,
+      held-within (takenOff says turns n w text .rest),
+      ap length (taken-rest says turns n w text),
+      length-drop (takenOff says turns n w text .used) text,
+      line-off n w text has some,
+      taken-used says turns n w text,
+      short,
+    ))
+    (λ (none : hasNewline text ≡ false).
+    rw (taken-none says turns n w text none) (omega (arith, held-is-short text none, long)))
+    (true-or-false (hasNewline text))
+
+pub room-to-read : RoomToRead
+room-to-read w text filled out accepted goes long room =
+    let s = sound (w .session .bus) (w .memory) (w .ports) text filled accepted in
+    let some : 0 < linesFor (w .session .stage) (length out / 19) =
+    ⊎-elim (λ e. some-line w e (length out) room) (λ e. running-line w e (length out) room) goes in
+    rw (eq-eqb (feedRefusal (w .session .bus) (w .memory) (w .ports) text filled) Refusal.accepted accepted) (
+    held-less (linesFor (w .session .stage) (length out / 19)) w (take filled text) (length text) some
+    (omega (arith, length-take-le filled text (s .filled-within), s .filled-within)) long)
+
 -- ---- The last line
 
 -- one line with its newline, taken off where there is room, says what the line alone is answered
@@ -135,14 +178,6 @@ last-said (suc n) w line none some =
     let ended = ended-line line none in
     rw (taken-line says turns n w (line ++ newline ∷ []) (ended .0), ended .1 .0, ended .1 .1) (
     rw (taken-none says turns n (turns w line) [] no-newline) (append-nil (says w line)))
-
-some-line : (w : World) → w .session .stage ≡ Awaiting → (size : ℕ) → 19 ≤ size → 0 < linesFor (w .session .stage) (size / 19)
-unfolding linesFor
-some-line w e size room = rw e (omega (arith, room))
-
-running-line : (w : World) → w .session .stage ≡ Running → (size : ℕ) → 19 ≤ size → 0 < linesFor (w .session .stage) (size / 19)
-unfolding linesFor
-running-line w e size room = rw e (omega (arith, room))
 
 ended-lines : (w : World) → w .session .stage ≡ Ended → (size : ℕ) → linesFor (w .session .stage) (size / 19) ≡ 0
 unfolding linesFor

@@ -3,11 +3,11 @@ use mathlib.Core.Path.{_≡_, refl, sym, ap, subst, _∙_}
 use mathlib.Core.Logic.{_⊎_, ⊎-elim}
 use mathlib.Core.Bool.{Bool, true, false, false≢true}
 use mathlib.Core.List.{List, [], _∷_, _++_, append-nil}
-use Prim.Native.Nat.{ℕ, _*_, _<_, _≤_}
+use Prim.Native.Nat.{ℕ, zero, suc, _*_, _<_, _≤_}
 use native.Mathlib.Decide.{decLe, ℕ-discrete}
 use native.Mathlib.Omega.{arith}
 use lib.Dec.{eqb}
-use lib.ListN.{length, take, drop, replicate, length-append, length-replicate, length-take, length-drop, length-map}
+use lib.ListN.{length, take, drop, replicate, length-append, length-replicate, length-take, length-drop, length-map, getD}
 use lib.Seq.{take-all}
 use borrow.Author.Tests.{eqb-true, eq-eqb, ne-eqb}
 use Rattle.words.specs.Among.{everyListed}
@@ -32,7 +32,7 @@ use Rattle.text.proofs.DigitLaws.{both-of}
 use Rattle.text.proofs.ReadingLaws.{answer-long}
 use Rattle.session.specs.World.{World, world, says, turns, saysBy, turnsBy, setUpBy, setupAnswer, afterEvent, machineOf, freshWorld}
 use Rattle.session.specs.Output.{answers, output}
-use Rattle.session.specs.Promises.{EventTakesItsStep, BadLineAnswers, RefusedLineKeeps, RefusedSetupEnds, CutChangesNothing, EmptyPrintsNothing, OneAnswerALine, StaysSound, FreshIsSound, setupNumber, answered}
+use Rattle.session.specs.Promises.{EventTakesItsStep, BadLineAnswers, RefusedLineKeeps, RefusedSetupEnds, CutChangesNothing, EmptyPrintsNothing, OneAnswerALine, StaysSound, StartsAtZero, FreshIsSound, setupNumber, answered}
 use Rattle.session.specs.declared.state.Stage.{Stage}
 use Rattle.session.specs.declared.state.Stage.the-variants.{Awaiting, Running, Ended}
 use Rattle.bus.proofs.SetUp.{setup-makes-sense}
@@ -226,3 +226,12 @@ pub fresh-is-sound : FreshIsSound
 unfolding freshWorld
 fresh-is-sound =
     (empty-sense, fit-by-lengths (replicate 0x10000 0) (replicate 0x100 0) (length-replicate {A = ℕ} 0x10000 0) (length-replicate {A = ℕ} 0x100 0))
+
+zeros : (n k : ℕ) → getD {A = ℕ} (replicate n 0) k 0 ≡ 0
+zeros zero k = refl
+zeros (suc n) zero = refl
+zeros (suc n) (suc k) = zeros n k
+
+pub starts-at-zero : StartsAtZero
+unfolding freshWorld
+starts-at-zero k = (zeros 0x10000 k, zeros 0x100 k)

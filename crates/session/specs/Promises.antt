@@ -5,7 +5,7 @@ use mathlib.Core.Logic.{_⊎_}
 use mathlib.Core.Bool.{true, false, cond}
 use mathlib.Core.List.{List, [], _∷_, _++_}
 use lib.Dec.{eqb}
-use lib.ListN.{length, take}
+use lib.ListN.{length, getD, take}
 use Rattle.bus.specs.Refusal as Refusal
 use Rattle.bus.specs.Sense.{makesSense}
 use Rattle.bus.specs.Setup.{emptyBus}
@@ -86,6 +86,10 @@ StaysSound =
 abbrev pub FreshIsSound : Type 0
 FreshIsSound = (makesSense (freshWorld .session .bus) ≡ true) × (hasWrongBuffers (freshWorld .memory) (freshWorld .ports) ≡ false)
 
+-- Every byte of memory and every port is 0 before the first line.
+abbrev pub StartsAtZero : Type 0
+StartsAtZero = (k : ℕ) → (getD (freshWorld .memory) k 0 ≡ 0) × (getD (freshWorld .ports) k 0 ≡ 0)
+
 -- ---- Chunks
 
 -- However the text is cut into chunks, and whatever room each call has: what was answered, with what the held text will be, is the output.
@@ -109,6 +113,13 @@ FedInPlace =
     → (take (fedOf w text filled out .written) (outLeft w text filled out) ≡ takes (length out) w (take filled text) .said)
     × ((take (fedOf w text filled out .held) (textLeft w text filled out) ≡ heldOf (takes (length out) w (take filled text) .rest))
     × (worldLeft w text filled out ≡ takes (length out) w (take filled text) .state))
+
+-- After it there is room to read more, where the run goes on, the text is longer than what is held of an unended line, and an answer had room.
+abbrev pub RoomToRead : Type 0
+RoomToRead =
+    (w : World) (text : List ℕ) (filled : ℕ) (out : List ℕ) → feedRefusal (w .session .bus) (w .memory) (w .ports) text filled ≡ Refusal.accepted
+    → (w .session .stage ≡ Awaiting) ⊎ (w .session .stage ≡ Running) → 1 + longest < length text → answerLength ≤ length out
+    → fedOf w text filled out .held < length text
 
 -- At the end of the input an accepted finish writes what the held line is answered, where it holds no newline and has room for one.
 abbrev pub FinishedInPlace : Type 0

@@ -6,13 +6,13 @@ use mathlib.Core.List.{List, [], _∷_, _++_, append-assoc, append-nil}
 use Prim.Native.Nat.{ℕ, zero, suc, _+_}
 use native.Mathlib.Omega.{arith}
 use lib.Dec.{eqb}
-use lib.ListN.{length, take}
+use lib.ListN.{length, take, length-take}
 use lib.Seq.{append-snoc, take-take}
 use Rattle.words.proofs.TestLaws.{true-or-false, neither-of}
 use Rattle.text.specs.Newlines.{newline, hasNewline, firstLine, restOf, lastLine, linesAfter, linesOf}
 use Rattle.text.specs.Frames.{longest}
 use Rattle.text.specs.Reading.{answersTo, takenOff}
-use Rattle.text.specs.Promises.{LineEnded, LineUnended, TakenIsTheWhole, HeldIsEnough}
+use Rattle.text.specs.Promises.{LineEnded, LineUnended, SplitsAtNewline, HeldIsShort, TakenIsTheWhole, HeldIsEnough}
 use Rattle.text.proofs.NewlineLaws.{by-newline, splits}
 use Rattle.text.proofs.ReadingLaws.{taken-line, taken-none, none-taken}
 
@@ -169,3 +169,9 @@ last-of b line = refl
 pub last-none : lastLine [] ≡ []
 unfolding lastLine
 last-none = refl
+
+pub splits-at-newline : SplitsAtNewline
+splits-at-newline text has = (splits text has, first-has-none text)
+
+pub held-is-short : HeldIsShort
+held-is-short rest none = rw none (omega (arith, length-take 21 rest))

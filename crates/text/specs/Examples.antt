@@ -63,7 +63,7 @@ pub record SetupLines : Type 0 where
   pub anEvent : setupIn wordWrite ≡ record { refusal = badLine; fitted = 0; pages = replicate 16 0 }
   pub tooLong : setupIn (setup ++ 0x30 ∷ []) ≡ record { refusal = badLine; fitted = 0; pages = replicate 16 0 }
 
--- ---- An answer line with every digit once
+-- ---- An answer line with every digit
 
 abbrev pub eachDigit : Answer
 eachDigit = record {

@@ -1,5 +1,5 @@
 -- What is promised of digits, lines and frames. The proof of each stands in proofs/ under its name in lower case, with hyphens.
-use Prim.Native.Nat.{ℕ, _+_, _^_, _<_}
+use Prim.Native.Nat.{ℕ, _+_, _^_, _<_, _≤_}
 use mathlib.Core.Path.{_≡_}
 use mathlib.Core.Bool.{true, false}
 use mathlib.Core.List.{List, _∷_, _++_}
@@ -8,7 +8,7 @@ use Rattle.bus.specs.Refusal.{accepted}
 use Rattle.judgement.specs.declared.event.Event.{Event}
 use Rattle.events.specs.declared.answers.Answer.{Answer}
 use Rattle.text.specs.Digits.{isDigit, valueOf, digitOf, numberOf, digitsOf, isDigits}
-use Rattle.text.specs.Newlines.{newline, hasNewline, lastLine, linesOf}
+use Rattle.text.specs.Newlines.{newline, hasNewline, firstLine, restOf, lastLine, linesOf}
 use Rattle.text.specs.Frames.{eventDigits, eventIn, eventLine, setupIn, setupLine, longest}
 use Rattle.text.specs.AnswerLine.{answerDigits, answerLine, answerLength, answerIn}
 use Rattle.text.specs.Reading.{answersTo, takenOff, heldOf}
@@ -67,6 +67,15 @@ LineEnded = (line text : List ℕ) → hasNewline line ≡ false → linesOf (li
 -- Where no newline follows, the end of the text ends a line, if it has any byte.
 abbrev pub LineUnended : Type 0
 LineUnended = (line : List ℕ) → hasNewline line ≡ false → linesOf line ≡ lastLine line
+
+-- A text with a newline is its first line, which has none, the newline, and the rest.
+abbrev pub SplitsAtNewline : Type 0
+SplitsAtNewline =
+    (text : List ℕ) → hasNewline text ≡ true → (text ≡ firstLine text ++ newline ∷ restOf text) × (hasNewline (firstLine text) ≡ false)
+
+-- However long an unended line is, no more is held of it than one byte above the longest right line.
+abbrev pub HeldIsShort : Type 0
+HeldIsShort = (rest : List ℕ) → hasNewline rest ≡ false → length (heldOf rest) ≤ 1 + longest
 
 -- ---- Reading in pieces: of any state, whatever a line says in it and turns it to
 

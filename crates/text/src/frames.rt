@@ -52,7 +52,7 @@ pub fn line_end(text: &[u8]) -> usize
     i
 }
 
-// A right line is seen by its length, and no other is measured twice.
+// A right event line is seen by the newline at its place; the end of any other line has to be looked for.
 pub fn next_line(text: &[u8]) -> Line
     ensures { λ r. ⌜ r ≡ nextLine (now (text .entry)) ⌝ }
 {

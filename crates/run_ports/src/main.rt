@@ -1,0 +1,4 @@
+// Runs the text program on examples/ports.frames.
+fn main() {
+    program::run();
+}
