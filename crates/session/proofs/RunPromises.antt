@@ -185,7 +185,7 @@ awaiting-long bus m p (line ∷ lines) = go (ℕ-discrete (setupNumber line) Ref
 
 pub one-answer-a-line : OneAnswerALine
 unfolding freshWorld
-one-answer-a-line text = awaiting-long emptyBus (replicate 0x10000 0) (replicate 0x100 0) (linesOf text)
+one-answer-a-line text = awaiting-long emptyBus (freshWorld .memory) (freshWorld .ports) (linesOf text)
 
 -- ---- Sound
 
@@ -219,14 +219,6 @@ stays-sound w line sense fit = go (w .session .stage) refl
     go Running e = rw e (sense-after (machineOf w) line sense, after-fit (machineOf w) line fit)
     go Ended e = rw e (sense, fit)
 
-fit-by-lengths : (m p : List ℕ) → length m ≡ 0x10000 → length p ≡ 0x100 → hasWrongBuffers m p ≡ false
-fit-by-lengths m p em ep = rw (em, ep) refl
-
-pub fresh-is-sound : FreshIsSound
-unfolding freshWorld
-fresh-is-sound =
-    (empty-sense, fit-by-lengths (replicate 0x10000 0) (replicate 0x100 0) (length-replicate {A = ℕ} 0x10000 0) (length-replicate {A = ℕ} 0x100 0))
-
 zeros : (n k : ℕ) → getD {A = ℕ} (replicate n 0) k 0 ≡ 0
 zeros zero k = refl
 zeros (suc n) zero = refl
@@ -235,3 +227,11 @@ zeros (suc n) (suc k) = zeros n k
 pub starts-at-zero : StartsAtZero
 unfolding freshWorld
 starts-at-zero k = (zeros 0x10000 k, zeros 0x100 k)
+
+fit-by-lengths : (m p : List ℕ) → length m ≡ 0x10000 → length p ≡ 0x100 → hasWrongBuffers m p ≡ false
+fit-by-lengths m p em ep = rw (em, ep) refl
+
+pub fresh-is-sound : FreshIsSound
+unfolding freshWorld
+fresh-is-sound =
+    (empty-sense, fit-by-lengths (freshWorld .memory) (freshWorld .ports) (length-replicate {A = ℕ} 0x10000 0) (length-replicate {A = ℕ} 0x100 0))

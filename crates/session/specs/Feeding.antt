@@ -1,4 +1,5 @@
--- A call that is given the text read so far: it answers the lines that have ended, as many as there is room for, and holds the rest.
+-- A call that is given the text read so far: it answers lines that have ended, the setup line alone or as many events as there is room for, and
+-- holds the rest.
 use Prim.Native.Nat.{ℕ, _+_, _-_, _/_, min}
 use mathlib.Core.Bool.{Bool, cond, _||_, _&&_, not}
 use mathlib.Core.List.{List, _++_}
