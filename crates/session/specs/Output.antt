@@ -1,4 +1,4 @@
--- The whole output for the whole input: a fold over the lines of the text.
+-- What the program prints, as a function of all that it reads.
 use Prim.Native.Nat.{ℕ}
 use mathlib.Core.List.{List}
 use Rattle.text.specs.Newlines.{linesOf}

@@ -41,7 +41,7 @@ BadLineAnswers =
     (m : Machine) (line : List ℕ) → isDigits eventDigits line ≡ false
     → says (world Running (m .bus) (m .memory) (m .ports)) line ≡ answerLine (bare Refusal.badLine)
 
--- A line that is refused, as bad or as an event, leaves state, memory and ports as they were.
+-- A line that is refused, as bad or as an event, changes neither the bus nor a byte.
 abbrev pub RefusedLineKeeps : Type 0
 RefusedLineKeeps =
     (m : Machine) (line : List ℕ) → (isDigits eventDigits line ≡ false) ⊎ (refusalIn m (eventIn line) ≡ Refusal.accepted → ⊥)
@@ -73,7 +73,7 @@ unfoldable pub answered : List (List ℕ) → ℕ
 answered [] = 0
 answered (line ∷ lines) = cond (eqb (setupNumber line) Refusal.accepted) (1 + length lines) 1
 
--- One answer line for each line, up to a refused setup.
+-- As many answer lines as lines; one alone where setup is refused.
 abbrev pub OneAnswerALine : Type 0
 OneAnswerALine = (text : List ℕ) → length (output text) ≡ answered (linesOf text) * answerLength
 

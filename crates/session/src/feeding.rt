@@ -23,7 +23,7 @@ pub struct Fed {
     pub written: usize,
 }
 
-// Takes the lines that have ended in the filled part of the text, as many as have room for their answers, and brings the rest to the front.
+// Takes lines that have ended in the filled part of the text, the setup line alone or as many events as have room for their answers, and brings the rest to the front.
 // What is read next goes behind it.
 pub fn feed(
     session: Session,

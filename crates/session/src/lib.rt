@@ -1,4 +1,4 @@
-// The run of the program, one chunk of text at a time: the setup line, then event lines.
+// A run of the program in calls, each with a piece of the text.
 mod feeding;
 mod holding;
 mod setting;

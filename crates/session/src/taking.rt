@@ -44,7 +44,7 @@ pub struct EventLine {
     pub used: usize,
 }
 
-// As many lines as have ended and find room.
+// The setup line, or as many event lines as have ended and find room.
 pub fn take_lines(
     session: Session,
     text: &[u8],
@@ -101,7 +101,7 @@ fn take_setup(bus: Bus, text: &[u8], out: &mut [u8]) -> TakenLines
     }
 }
 
-// Event lines, one after another: what follows a line is handed on as the rest of the text.
+// Event lines, one after another: each is read from the slice behind the newline before it.
 fn take_events(
     start: Bus,
     text: &[u8],

@@ -1,4 +1,4 @@
--- The lines of a text: each is ended by a newline or by the end of the text (01, "The program and one whole run").
+-- The lines of a text: a newline ends each, and the end of the text the last (01, "The program and one whole run").
 use Prim.Native.Nat.{ℕ}
 use mathlib.Core.Bool.{Bool, false, cond, _||_}
 use mathlib.Core.List.{List, [], _∷_, _++_}
@@ -22,7 +22,7 @@ unfoldable pub restOf : List ℕ → List ℕ
 restOf [] = []
 restOf (b ∷ text) = cond (eqb b newline) text (restOf text)
 
--- what the end of the text ends: nothing after the last newline is no line
+-- what the end of the text ends: a line, unless no byte is left
 unfoldable pub lastLine : List ℕ → List (List ℕ)
 lastLine [] = []
 lastLine (b ∷ held) = (b ∷ held) ∷ []
