@@ -1,0 +1,87 @@
+-- What a call answers and leaves, by the lengths that were asked for.
+use mathlib.Core.Path.{_≡_, refl, ap, _∙_}
+use mathlib.Core.Bool.{true, false, _&&_, and-eq-true-iff}
+use mathlib.Core.List.{List}
+use Prim.Native.Nat.{ℕ, _<_}
+use lib.Dec.{eqb, ltb}
+use lib.ListN.{length, getD}
+use borrow.Author.Tests.{eqb-true, ltb-true, eq-eqb, ne-eqb}
+use Rattle.words.proofs.TestLaws.{then-pick, else-pick}
+use Rattle.bus.specs.Sense.{makesSense}
+use Rattle.bus.specs.declared.state.Bus.{Bus}
+use Rattle.judgement.specs.declared.event.Event.{Event}
+use Rattle.events.specs.Machine.{machine}
+use Rattle.events.specs.Step.{after, answerTo, stepped}
+use Rattle.events.specs.declared.steps.Stepped.{Stepped}
+use Rattle.s100_c.specs.Layout.{stateSize, isState, stateBytes, busIn, answerSize, isAnswer, answerBytes}
+use Rattle.s100_c.specs.Calls.{setupFits, Lent, lent, machineIn, placesFit, written, byLengths, noField, fieldOf, entryOf, isSensible}
+
+-- ---- Step
+
+pub places-fit : (given : Lent) → placesFit given ≡ true → (length (given .state) ≡ stateSize) × (length (given .answer) ≡ answerSize)
+places-fit given fits =
+    let both = and-eq-true-iff (isState (given .state)) (isAnswer (given .answer)) .0 fits in
+    (eqb-true (length (given .state)) stateSize (both .0), eqb-true (length (given .answer)) answerSize (both .1))
+
+pub all-fit : {A : Type 0} (given : Lent) (misplaced misfit : A) {fits : A} → placesFit given ≡ true
+    → (eqb (length (given .memory)) 0x10000 && eqb (length (given .ports)) 0x100) ≡ true → fits ≡ byLengths given misplaced misfit fits
+all-fit given misplaced misfit places buffers = rw (places, buffers) refl
+
+pub buffers-misfit : {A : Type 0} (given : Lent) (misplaced : A) {misfit : A} (fits : A) → placesFit given ≡ true
+    → (eqb (length (given .memory)) 0x10000 && eqb (length (given .ports)) 0x100) ≡ false → misfit ≡ byLengths given misplaced misfit fits
+buffers-misfit given misplaced fits places buffers = rw (places, buffers) refl
+
+pub places-misfit : {A : Type 0} (given : Lent) {misplaced : A} (misfit fits : A) → placesFit given ≡ false
+    → misplaced ≡ byLengths given misplaced misfit fits
+places-misfit given misfit fits places = rw places refl
+
+-- the bus decoded, its step taken, and state and answer encoded
+pub step-written : (given : Lent) (event : Event) (bus : Bus) (s : Stepped) (state memory ports answer : List ℕ)
+    → bus ≡ busIn (given .state)
+    → s ≡ stepped (after (machine bus (given .memory) (given .ports)) event .bus) (answerTo (machine bus (given .memory) (given .ports)) event)
+    → state ≡ stateBytes (s .bus)
+    → memory ≡ after (machine bus (given .memory) (given .ports)) event .memory
+    → ports ≡ after (machine bus (given .memory) (given .ports)) event .ports
+    → answer ≡ answerBytes (s .answer)
+    → (s .answer .refusal ≡ answerTo (machineIn given) event .refusal) × (lent state memory ports answer ≡ written given event)
+step-written given event bus s state memory ports answer decoded taken stateLeft memoryLeft portsLeft answerLeft = (
+  ap (λ (x : Stepped). x .answer .refusal) taken ∙ ap (λ (b : Bus). answerTo (machine b (given .memory) (given .ports)) event .refusal) decoded,
+  ap (λ (l : List ℕ). lent l memory ports answer) (stateLeft ∙ ap (λ (x : Stepped). stateBytes (x .bus)) taken)
+      ∙ ap (λ (l : List ℕ). lent (stateBytes (after (machine bus (given .memory) (given .ports)) event .bus)) l ports answer) memoryLeft
+      ∙ ap (λ (l : List ℕ). lent (stateBytes (after (machine bus (given .memory) (given .ports)) event .bus)) (after (machine bus (given .memory) (given .ports)) event .memory) l answer) portsLeft
+      ∙ ap (λ (l : List ℕ). lent (stateBytes (after (machine bus (given .memory) (given .ports)) event .bus)) (after (machine bus (given .memory) (given .ports)) event .memory) (after (machine bus (given .memory) (given .ports)) event .ports) l) (answerLeft ∙ ap (λ (x : Stepped). answerBytes (x .answer)) taken)
+      ∙ ap (λ (b : Bus). lent (stateBytes (after (machine b (given .memory) (given .ports)) event .bus)) (after (machine b (given .memory) (given .ports)) event .memory) (after (machine b (given .memory) (given .ports)) event .ports) (answerBytes (answerTo (machine b (given .memory) (given .ports)) event))) decoded,
+)
+
+-- ---- Setup
+
+pub setup-fits : (pages state : List ℕ) → setupFits pages state ≡ true → (length pages ≡ 16) × (length state ≡ stateSize)
+setup-fits pages state fits =
+    let both = and-eq-true-iff (eqb (length pages) 16) (isState state) .0 fits in
+    (eqb-true (length pages) 16 (both .0), eqb-true (length state) stateSize (both .1))
+
+-- ---- Fields
+
+pub field-found : (field : Bus → ℕ) (state : List ℕ) {bus : Bus} → length state ≡ stateSize → bus ≡ busIn state → field bus ≡ fieldOf field state
+field-found field state size e = then-pick noField (eq-eqb (length state) stateSize size) (ap field e)
+
+pub field-none : (field : Bus → ℕ) (state : List ℕ) → (length state ≡ stateSize → ⊥) → noField ≡ fieldOf field state
+field-none field state other = else-pick (field (busIn state)) (ne-eqb (length state) stateSize other) refl
+
+pub entry-fits : (state : List ℕ) (n : ℕ) → (isState state && ltb n 16) ≡ true → (length state ≡ stateSize) × (n < 16)
+entry-fits state n fits =
+    let both = and-eq-true-iff (isState state) (ltb n 16) .0 fits in
+    (eqb-true (length state) stateSize (both .0), ltb-true n 16 (both .1))
+
+pub entry-found : (entries : Bus → List ℕ) (state : List ℕ) (n : ℕ) {bus : Bus} → (isState state && ltb n 16) ≡ true → bus ≡ busIn state
+    → getD (entries bus) n 0 ≡ entryOf entries state n
+entry-found entries state n fits e = then-pick noField fits (ap (λ (b : Bus). getD (entries b) n 0) e)
+
+pub entry-none : (entries : Bus → List ℕ) (state : List ℕ) (n : ℕ) → (isState state && ltb n 16) ≡ false → noField ≡ entryOf entries state n
+entry-none entries state n misfit = else-pick (getD (entries (busIn state)) n 0) misfit refl
+
+pub sense-found : (state : List ℕ) {bus : Bus} → length state ≡ stateSize → bus ≡ busIn state → makesSense bus ≡ isSensible state
+sense-found state size e = rw (eq-eqb (length state) stateSize size) (ap makesSense e)
+
+pub sense-none : (state : List ℕ) → (length state ≡ stateSize → ⊥) → false ≡ isSensible state
+sense-none state other = rw (ne-eqb (length state) stateSize other) refl

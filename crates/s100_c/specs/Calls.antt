@@ -1,0 +1,93 @@
+-- What each call answers, and what it leaves in the buffers that it was lent. Where a length is wrong, nothing is written.
+use Prim.Native.Nat.{ℕ}
+use mathlib.Core.Bool.{Bool, cond, _&&_}
+use mathlib.Core.List.{List}
+use lib.Dec.{eqb, ltb}
+use lib.ListN.{length, getD}
+use Rattle.bus.specs.Refusal as Refusal
+use Rattle.bus.specs.Sense.{makesSense}
+use Rattle.bus.specs.Setup.{setupOf}
+use Rattle.bus.specs.Settle.{settleOf}
+use Rattle.bus.specs.declared.state.Bus.{Bus}
+use Rattle.judgement.specs.Refusals.{hasWrongBuffers}
+use Rattle.judgement.specs.declared.event.Event.{Event}
+use Rattle.events.specs.Machine.{Machine, machine}
+use Rattle.events.specs.Step.{after, answerTo}
+use Rattle.s100_c.specs.Layout.{isState, stateBytes, busIn, isAnswer, answerBytes}
+
+-- answered where a state, pages or an answer's place have a wrong length: none of 01's numbers, since 01's first is for memory and ports alone
+abbrev pub wrongLength : ℕ
+wrongLength = 0xFF
+
+-- ---- Setup
+
+abbrev pub setupFits : List ℕ → List ℕ → Bool
+setupFits pages state = eqb (length pages) 16 && isState state
+
+abbrev pub setupAnswers : ℕ → List ℕ → List ℕ → ℕ
+setupAnswers fitted pages state = cond (setupFits pages state) (setupOf fitted pages .answer) wrongLength
+
+abbrev pub setupLeaves : ℕ → List ℕ → List ℕ → List ℕ
+setupLeaves fitted pages state = cond (setupFits pages state) (stateBytes (setupOf fitted pages .bus)) state
+
+-- ---- Step
+
+-- what a call is lent
+pub record Lent : Type 0 where
+  pub state : List ℕ
+  pub memory : List ℕ
+  pub ports : List ℕ
+  pub answer : List ℕ
+
+abbrev pub lent : List ℕ → List ℕ → List ℕ → List ℕ → Lent
+lent state memory ports answer = record { state = state; memory = memory; ports = ports; answer = answer }
+
+abbrev pub machineIn : Lent → Machine
+machineIn given = machine (busIn (given .state)) (given .memory) (given .ports)
+
+abbrev pub placesFit : Lent → Bool
+placesFit given = isState (given .state) && isAnswer (given .answer)
+
+-- all that a step writes, from what it was lent
+abbrev pub written : Lent → Event → Lent
+written given event =
+    lent (stateBytes (after (machineIn given) event .bus)) (after (machineIn given) event .memory) (after (machineIn given) event .ports)
+    (answerBytes (answerTo (machineIn given) event))
+
+-- picked by the lengths: those of the face's own places come first, then memory's and ports'
+abbrev pub byLengths : {A : Type 0} → Lent → A → A → A → A
+byLengths given misplaced misfit fits = cond (placesFit given) (cond (hasWrongBuffers (given .memory) (given .ports)) misfit fits) misplaced
+
+unfoldable pub stepAnswers : Lent → Event → ℕ
+stepAnswers given event = byLengths given wrongLength Refusal.wrongBuffers (answerTo (machineIn given) event .refusal)
+
+unfoldable pub stepLeaves : Lent → Event → Lent
+stepLeaves given event = byLengths given given given (written given event)
+
+-- ---- Settle
+
+abbrev pub settleAnswers : List ℕ → List ℕ → ℕ
+settleAnswers state cards = cond (isState state) (settleOf (busIn state) cards .answer) wrongLength
+
+abbrev pub settleLeaves : List ℕ → List ℕ → List ℕ
+settleLeaves state cards = cond (isState state) (stateBytes (settleOf (busIn state) cards .bus)) state
+
+-- the number lent for the looks
+abbrev pub settleCounts : List ℕ → List ℕ → ℕ → ℕ
+settleCounts state cards looks = cond (isState state) (settleOf (busIn state) cards .looks) looks
+
+-- ---- Fields
+
+-- where there is none
+abbrev pub noField : ℕ
+noField = 0xFFFFFFFF
+
+abbrev pub fieldOf : (Bus → ℕ) → List ℕ → ℕ
+fieldOf field state = cond (isState state) (field (busIn state)) noField
+
+-- of sixteen pages or cards
+abbrev pub entryOf : (Bus → List ℕ) → List ℕ → ℕ → ℕ
+entryOf entries state n = cond (isState state && ltb n 16) (getD (entries (busIn state)) n 0) noField
+
+abbrev pub isSensible : List ℕ → Bool
+isSensible state = isState state && makesSense (busIn state)

@@ -1,0 +1,3 @@
+-- Read in this order: the places of the fields; the calls; what is promised of them.
+pub mod Layout
+pub mod Calls

@@ -1,0 +1,110 @@
+// Where each field of a state and of an answer stands in a lent buffer. A caller has asked for the lengths before.
+ghost use mathlib.Core.Path.{_≡_};
+ghost use Prim.Native.Nat.{_+_, _*_, _≤_};
+ghost use lib.ListN.{length};
+ghost use lib.Seq.{sets};
+ghost use Rattle.s100_c.specs.Layout.{
+  twoBytes,
+  wordAt,
+  sixteenAt,
+  stateSize,
+  stateBytes,
+  busIn,
+  answerSize,
+  answerBytes,
+};
+use bus::Bus;
+use events::Answer;
+
+pub const STATE_SIZE: usize = 38;
+
+pub const ANSWER_SIZE: usize = 9;
+
+fn joined(high: u8, low: u8) -> u16
+    ensures { λ r. ⌜ r ≡ high * 0x100 + low ⌝ }
+{
+    high as u16 * 0x100 + low as u16
+}
+
+// The number in two bytes, the high one first.
+fn word_at(bytes: &[u8], at: usize) -> u16
+    requires { ⌜ at + 2 ≤ length (now bytes) ⌝ }
+    ensures { λ r. ⌜ r ≡ wordAt at (now (bytes .entry)) ⌝ }
+{
+    joined(bytes[at], bytes[at + 1])
+}
+
+// Sixteen bytes from a place on.
+pub fn sixteen_at(bytes: &[u8], at: usize) -> [u8; 16]
+    requires { ⌜ at + 16 ≤ length (now bytes) ⌝ }
+    ensures { λ r. ⌜ r ≡ sixteenAt at (now (bytes .entry)) ⌝ }
+{
+    let mut entries = [0u8; 16];
+    let mut i: usize = 0;
+    while i < 16 {
+        entries[i] = bytes[at + i];
+        i += 1;
+    }
+    entries
+}
+
+pub fn bus_in(state: &[u8]) -> Bus
+    requires { ⌜ length (now state) ≡ stateSize ⌝ }
+    ensures { λ r. ⌜ r ≡ busIn (now (state .entry)) ⌝ }
+{
+    Bus {
+        fitted: word_at(state, 0),
+        pages: sixteen_at(state, 2),
+        phase: state[18],
+        contenders: word_at(state, 19),
+        driven: sixteen_at(state, 21),
+        granted: state[37],
+    }
+}
+
+fn put_word(bytes: &mut [u8], at: usize, n: u16)
+    requires { ⌜ at + 2 ≤ length (now bytes) ⌝ }
+    ensures { λ _. ⌜ now (bytes .exit) ≡ sets (now (bytes .entry)) at (twoBytes n) ⌝ }
+{
+    bytes[at] = (n / 0x100) as u8;
+    bytes[at + 1] = (n % 0x100) as u8;
+}
+
+fn put_sixteen(bytes: &mut [u8], at: usize, entries: [u8; 16])
+    requires { ⌜ at + 16 ≤ length (now bytes) ⌝ }
+    ensures { λ _. ⌜ now (bytes .exit) ≡ sets (now (bytes .entry)) at entries ⌝ }
+{
+    let mut i: usize = 0;
+    while i < 16 {
+        bytes[at + i] = entries[i];
+        i += 1;
+    }
+}
+
+pub fn put_bus(bus: Bus, state: &mut [u8])
+    requires { ⌜ length (now state) ≡ stateSize ⌝ }
+    ensures { λ _. ⌜ now (state .exit) ≡ stateBytes bus ⌝ }
+{
+    let pages = bus.pages;
+    let driven = bus.driven;
+    put_word(state, 0, bus.fitted);
+    put_sixteen(state, 2, pages);
+    state[18] = bus.phase;
+    put_word(state, 19, bus.contenders);
+    put_sixteen(state, 21, driven);
+    state[37] = bus.granted;
+}
+
+pub fn put_answer(answer: Answer, bytes: &mut [u8])
+    requires { ⌜ length (now bytes) ≡ answerSize ⌝ }
+    ensures { λ _. ⌜ now (bytes .exit) ≡ answerBytes answer ⌝ }
+{
+    bytes[0] = answer.refusal;
+    bytes[1] = answer.phase;
+    bytes[2] = answer.granted;
+    bytes[3] = answer.lines;
+    bytes[4] = answer.signals;
+    bytes[5] = answer.status;
+    bytes[6] = answer.cycles;
+    put_word(bytes, 7, answer.datum);
+}

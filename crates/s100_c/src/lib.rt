@@ -1,0 +1,5 @@
+// The model for programs in other languages: setup, step, settle and the fields of a state, on numbers and lent bytes. include/s100.h says
+// what a caller has to know.
+mod calls;
+mod fields;
+mod layout;
