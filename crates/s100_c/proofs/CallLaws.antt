@@ -23,9 +23,9 @@ places-fit given fits =
     let both = and-eq-true-iff (isState (given .state)) (isAnswer (given .answer)) .0 fits in
     (eqb-true (length (given .state)) stateSize (both .0), eqb-true (length (given .answer)) answerSize (both .1))
 
-pub all-fit : {A : Type 0} (given : Lent) (misplaced misfit : A) {fits : A} → placesFit given ≡ true
-    → (eqb (length (given .memory)) 0x10000 && eqb (length (given .ports)) 0x100) ≡ true → fits ≡ byLengths given misplaced misfit fits
-all-fit given misplaced misfit places buffers = rw (places, buffers) refl
+pub all-fit : {A : Type 0} (given : Lent) (misplaced misfit fits : A) {x : A} → placesFit given ≡ true
+    → (eqb (length (given .memory)) 0x10000 && eqb (length (given .ports)) 0x100) ≡ true → x ≡ fits → x ≡ byLengths given misplaced misfit fits
+all-fit given misplaced misfit fits places buffers e = rw (places, buffers) e
 
 pub buffers-misfit : {A : Type 0} (given : Lent) (misplaced : A) {misfit : A} (fits : A) → placesFit given ≡ true
     → (eqb (length (given .memory)) 0x10000 && eqb (length (given .ports)) 0x100) ≡ false → misfit ≡ byLengths given misplaced misfit fits

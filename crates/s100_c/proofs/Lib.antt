@@ -1,3 +1,6 @@
--- What the checker has checked: laws of the layout, and the promises.
+-- Laws that the functions' proofs cite, and the promises' proofs.
+pub mod AsComputed
 pub mod LayoutLaws
 pub mod CallLaws
+pub mod ReadBack
+pub mod CallPromises

@@ -1,5 +1,4 @@
 -- By the lengths.
-use mathlib.Core.Path.{_∙_}
 use borrow.Author.Needs.{needs}
 use Rattle.bus.specs.Refusal as Refusal
 use Rattle.judgement.specs.Table.{eventOf}
@@ -23,9 +22,11 @@ s100-step-spec =
     (λ c. search needs)
     (λ c.
     let a = c .before .before .before .before .before .before .before .before .before .before .before .before .before .before .before .before .before .before .before .args in
-    let given = lent (a .state .now) (a .memory .now) (a .ports .now) (a .answer .now) in (
-      c .before .before .before .before .before .before .before .before .take-step .ensures .0 ∙ all-fit given wrongLength Refusal.wrongBuffers (c .before .before .before .before .before .before .before .before .before .before .before .before .before .before .if1 .taken) (c .before .before .before .before .before .before .before .before .before .before .before .before .before .if2 .taken),
-      c .before .before .before .before .before .before .before .before .take-step .ensures .1 ∙ all-fit given given given (c .before .before .before .before .before .before .before .before .before .before .before .before .before .before .if1 .taken) (c .before .before .before .before .before .before .before .before .before .before .before .before .before .if2 .taken),
+    let given = lent (a .state .now) (a .memory .now) (a .ports .now) (a .answer .now) in
+    let event = eventOf (a .kind) (a .speaker) (a .address) (a .datum) in
+    let taken = c .before .before .before .before .before .before .before .before .take-step .ensures in (
+      all-fit given wrongLength Refusal.wrongBuffers (answerTo (machineIn given) event .refusal) (c .before .before .before .before .before .before .before .before .before .before .before .before .before .before .if1 .taken) (c .before .before .before .before .before .before .before .before .before .before .before .before .before .if2 .taken) (taken .0),
+      all-fit given given given (written given event) (c .before .before .before .before .before .before .before .before .before .before .before .before .before .before .if1 .taken) (c .before .before .before .before .before .before .before .before .before .before .before .before .before .if2 .taken) (taken .1),
     ))
     (λ c.
     let a = c .before .before .before .before .before .before .args in

@@ -1,0 +1,58 @@
+-- States, answers and calls written out, by computation.
+use mathlib.Core.Path.{refl}
+use Rattle.words.specs.Below.{allBelow, orBelow}
+use Rattle.words.specs.Among.{everyListed}
+use Rattle.words.specs.First.{firstOf, leastBelow}
+use Rattle.lines.specs.Look.{look}
+use Rattle.lines.specs.Arbitration.{everyContender, shown, looked, settled, afterLook}
+use Rattle.cards.specs.Cards.{someCard, isWithin}
+use Rattle.bus.specs.Sense.{drivingFits, makesSense}
+use Rattle.bus.specs.Steps.{afterLooksOf}
+use Rattle.bus.specs.Settle.{settledAfter, leadingLooks, neverSettles, settleRefusal, settleOf}
+use Rattle.s100_c.specs.Layout.{stateBytes, busIn, answerBytes, answerIn}
+use Rattle.s100_c.specs.Examples.{BytesInPlace, FieldsInPlace, SetupCalls, SettleCalls}
+
+pub bytes-in-place : BytesInPlace
+unfolding busIn stateBytes answerBytes answerIn
+bytes-in-place = record { read = refl; put = refl; answerPut = refl; answerRead = refl }
+
+pub fields-in-place : FieldsInPlace
+unfolding busIn
+fields-in-place = record {
+  fitted = refl;
+  phase = refl;
+  contenders = refl;
+  granted = refl;
+  pageZero = refl;
+  lastPage = refl;
+  lastLevel = refl;
+  noSuchCard = refl;
+  tooLong = refl;
+  empty = refl;
+}
+
+pub setup-calls : SetupCalls
+unfolding stateBytes everyListed allBelow
+setup-calls = record {
+  answers = refl;
+  leaves = refl;
+  refused = refl;
+  emptied = refl;
+  fifteen = refl;
+  fifteenLeaves = refl;
+  short = refl;
+  shortLeaves = refl;
+}
+
+pub settle-calls : SettleCalls
+unfolding busIn stateBytes allBelow orBelow look everyContender shown looked settled afterLook someCard isWithin afterLooksOf firstOf leastBelow everyListed drivingFits makesSense settledAfter leadingLooks neverSettles settleRefusal settleOf
+settle-calls = record {
+  answers = refl;
+  counts = refl;
+  leaves = refl;
+  nineAnswers = refl;
+  nineCounts = refl;
+  nineLeaves = refl;
+  shortAnswers = refl;
+  shortCounts = refl;
+}

@@ -1,0 +1,105 @@
+-- States, answers and calls written out, byte by byte.
+use Prim.Native.Nat.{ℕ}
+use mathlib.Core.Path.{_≡_}
+use mathlib.Core.List.{List, [], _∷_, _++_}
+use lib.ListN.{replicate}
+use Rattle.bus.specs.Refusal as Refusal
+use Rattle.bus.specs.State.{stateOf}
+use Rattle.bus.specs.declared.state.Bus.{Bus}
+use Rattle.events.specs.declared.answers.Answer.{Answer}
+use Rattle.s100_c.specs.Layout.{stateBytes, busIn, answerBytes, answerIn}
+use Rattle.s100_c.specs.Calls.{
+  wrongLength,
+  setupAnswers,
+  setupLeaves,
+  settleAnswers,
+  settleLeaves,
+  settleCounts,
+  noField,
+  fieldOf,
+  entryOf,
+}
+
+-- ---- The layout: at every place the place's own number
+
+abbrev pub pageBytes : List ℕ
+pageBytes = 2 ∷ 3 ∷ 4 ∷ 5 ∷ 6 ∷ 7 ∷ 8 ∷ 9 ∷ 10 ∷ 11 ∷ 12 ∷ 13 ∷ 14 ∷ 15 ∷ 16 ∷ 17 ∷ []
+
+abbrev pub levelBytes : List ℕ
+levelBytes = 21 ∷ 22 ∷ 23 ∷ 24 ∷ 25 ∷ 26 ∷ 27 ∷ 28 ∷ 29 ∷ 30 ∷ 31 ∷ 32 ∷ 33 ∷ 34 ∷ 35 ∷ 36 ∷ []
+
+abbrev pub placed : List ℕ
+placed = 0 ∷ 1 ∷ [] ++ pageBytes ++ 18 ∷ 19 ∷ 20 ∷ [] ++ levelBytes ++ 37 ∷ []
+
+abbrev pub placedBus : Bus
+placedBus = stateOf 0x0001 pageBytes 0x12 0x1314 levelBytes 0x25
+
+-- the answer 00040300FF10011234 of 01's printed run, to a word written
+abbrev pub wordWritten : Answer
+wordWritten = record {
+  refusal = 0x00;
+  phase = 0x04;
+  granted = 0x03;
+  lines = 0x00;
+  signals = 0xFF;
+  status = 0x10;
+  cycles = 0x01;
+  datum = 0x1234;
+}
+
+pub record BytesInPlace : Type 0 where
+  pub read : busIn placed ≡ placedBus
+  pub put : stateBytes placedBus ≡ placed
+  pub answerPut : answerBytes wordWritten ≡ 0x00 ∷ 0x04 ∷ 0x03 ∷ 0x00 ∷ 0xFF ∷ 0x10 ∷ 0x01 ∷ 0x12 ∷ 0x34 ∷ []
+  pub answerRead : answerIn (0x00 ∷ 0x04 ∷ 0x03 ∷ 0x00 ∷ 0xFF ∷ 0x10 ∷ 0x01 ∷ 0x12 ∷ 0x34 ∷ []) ≡ wordWritten
+
+pub record FieldsInPlace : Type 0 where
+  pub fitted : fieldOf (λ bus. bus .fitted) placed ≡ 0x0001
+  pub phase : fieldOf (λ bus. bus .phase) placed ≡ 0x12
+  pub contenders : fieldOf (λ bus. bus .contenders) placed ≡ 0x1314
+  pub granted : fieldOf (λ bus. bus .granted) placed ≡ 0x25
+  pub pageZero : entryOf (λ bus. bus .pages) placed 0 ≡ 2
+  pub lastPage : entryOf (λ bus. bus .pages) placed 15 ≡ 17
+  pub lastLevel : entryOf (λ bus. bus .driven) placed 15 ≡ 36
+  pub noSuchCard : entryOf (λ bus. bus .driven) placed 16 ≡ noField
+  pub tooLong : fieldOf (λ bus. bus .phase) (placed ++ 0 ∷ []) ≡ noField
+  pub empty : entryOf (λ bus. bus .pages) [] 0 ≡ noField
+
+-- ---- Calls, on a buffer with other bytes in it
+
+abbrev pub used : List ℕ
+used = replicate 38 0x55
+
+-- 01's setup line 000A1200000000000000; a page code 3; fifteen pages; a buffer that is a byte short
+pub record SetupCalls : Type 0 where
+  pub answers : setupAnswers 0x000A (1 ∷ 2 ∷ [] ++ replicate 14 0) used ≡ Refusal.accepted
+  pub leaves : setupLeaves 0x000A (1 ∷ 2 ∷ [] ++ replicate 14 0) used ≡ 0x00 ∷ 0x0A ∷ 1 ∷ 2 ∷ [] ++ replicate 33 0 ++ 0xFF ∷ []
+  pub refused : setupAnswers 0x000A (3 ∷ [] ++ replicate 15 0) used ≡ Refusal.badPage
+  pub emptied : setupLeaves 0x000A (3 ∷ [] ++ replicate 15 0) used ≡ replicate 37 0 ++ 0xFF ∷ []
+  pub fifteen : setupAnswers 0x000A (replicate 15 1) used ≡ wrongLength
+  pub fifteenLeaves : setupLeaves 0x000A (replicate 15 1) used ≡ used
+  pub short : setupAnswers 0x000A (replicate 16 1) (replicate 37 0x55) ≡ wrongLength
+  pub shortLeaves : setupLeaves 0x000A (replicate 16 1) (replicate 37 0x55) ≡ replicate 37 0x55
+
+-- ---- Cards 4, 9 and 10 contend, nobody drives (M5, M6)
+
+abbrev pub fourNineTen : List ℕ
+fourNineTen = 0xFF ∷ 0xFF ∷ [] ++ replicate 16 1 ++ 0x01 ∷ 0x06 ∷ 0x10 ∷ [] ++ replicate 16 0 ++ 0xFF ∷ []
+
+abbrev pub nine : List ℕ
+nine = 4 ∷ 9 ∷ 10 ∷ 9 ∷ 10 ∷ 4 ∷ 9 ∷ 10 ∷ 4 ∷ []
+
+abbrev pub twelve : List ℕ
+twelve = nine ++ 9 ∷ 10 ∷ 4 ∷ []
+
+pub record SettleCalls : Type 0 where
+  pub answers : settleAnswers fourNineTen twelve ≡ Refusal.accepted
+  pub counts : settleCounts fourNineTen twelve 77 ≡ 10
+  -- settled: card 9 has dropped its lowest bit, 4 all that it had, and 10 drives its number
+  pub leaves : settleLeaves fourNineTen twelve
+      ≡ 0xFF ∷ 0xFF ∷ [] ++ replicate 16 1 ++ 0x01 ∷ 0x06 ∷ 0x10 ∷ [] ++ replicate 9 0 ++ 8 ∷ 10 ∷ [] ++ replicate 5 0 ++ 0xFF ∷ []
+  pub nineAnswers : settleAnswers fourNineTen nine ≡ Refusal.unsettled
+  pub nineCounts : settleCounts fourNineTen nine 77 ≡ 0
+  pub nineLeaves : settleLeaves fourNineTen nine ≡ fourNineTen
+  pub shortAnswers : settleAnswers (replicate 37 0) twelve ≡ wrongLength
+  pub shortCounts : settleCounts (replicate 37 0) twelve 77 ≡ 77

@@ -1,0 +1,139 @@
+-- What is promised of the C face. The proof of each stands in proofs/ under its name in lower case, with hyphens.
+use Prim.Native.Nat.{ℕ, _<_}
+use mathlib.Core.Path.{_≡_}
+use mathlib.Core.Bool.{true, false, cond}
+use mathlib.Core.List.{List, [], _∷_}
+use lib.ListN.{length, getD}
+use Rattle.bus.specs.Refusal as Refusal
+use Rattle.bus.specs.Sense.{makesSense}
+use Rattle.bus.specs.Setup.{setupOf}
+use Rattle.bus.specs.Settle.{settleOf}
+use Rattle.bus.specs.declared.state.Bus.{Bus}
+use Rattle.judgement.specs.Refusals.{hasWrongBuffers}
+use Rattle.judgement.specs.declared.event.Event.{Event}
+use Rattle.events.specs.Machine.{machine}
+use Rattle.events.specs.Step.{after, answerTo}
+use Rattle.events.specs.declared.answers.Answer.{Answer}
+use Rattle.s100_c.specs.Layout.{stateSize, isState, stateBytes, busIn, answerSize, isAnswer, answerBytes, answerIn}
+use Rattle.s100_c.specs.Calls.{
+  wrongLength,
+  setupFits,
+  setupAnswers,
+  setupLeaves,
+  Lent,
+  lent,
+  machineIn,
+  placesFit,
+  stepAnswers,
+  stepLeaves,
+  settleAnswers,
+  settleLeaves,
+  settleCounts,
+}
+
+-- ---- The layout
+
+-- sixteen pages and sixteen levels, as the arrays of the code have
+abbrev pub Whole : Bus → Type 0
+Whole bus = (length (bus .pages) ≡ 16) × (length (bus .driven) ≡ 16)
+
+-- what a buffer can hold
+abbrev pub AreBytes : List ℕ → Type 0
+AreBytes bytes = (i : ℕ) → i < length bytes → getD bytes i 0 < 0x100
+
+-- Decoding undoes encoding, for every state that the code can have
+abbrev pub StateReadsBack : Type 0
+StateReadsBack = (bus : Bus) → Whole bus → (length (stateBytes bus) ≡ stateSize) × (busIn (stateBytes bus) ≡ bus)
+
+-- and so for every state that makes sense,
+abbrev pub SensibleReadsBack : Type 0
+SensibleReadsBack = (bus : Bus) → makesSense bus ≡ true → (length (stateBytes bus) ≡ stateSize) × (busIn (stateBytes bus) ≡ bus)
+
+-- and encoding undoes decoding, for all bytes.
+abbrev pub BytesReadBack : Type 0
+BytesReadBack = (bytes : List ℕ) → length bytes ≡ stateSize → AreBytes bytes → Whole (busIn bytes) × (stateBytes (busIn bytes) ≡ bytes)
+
+abbrev pub AnswerReadsBack : Type 0
+AnswerReadsBack = (a : Answer) → (length (answerBytes a) ≡ answerSize) × (answerIn (answerBytes a) ≡ a)
+
+-- ---- Where a length is wrong the answer is fixed, and every buffer is as it was.
+
+abbrev pub SetupMisfits : Type 0
+SetupMisfits =
+    (fitted : ℕ) (pages state : List ℕ) → setupFits pages state ≡ false
+    → (setupAnswers fitted pages state ≡ wrongLength) × (setupLeaves fitted pages state ≡ state)
+
+abbrev pub StepMisplaced : Type 0
+StepMisplaced =
+    (given : Lent) (event : Event) → placesFit given ≡ false → (stepAnswers given event ≡ wrongLength) × (stepLeaves given event ≡ given)
+
+abbrev pub StepMisfits : Type 0
+StepMisfits =
+    (given : Lent) (event : Event) → placesFit given ≡ true → hasWrongBuffers (given .memory) (given .ports) ≡ true
+    → (stepAnswers given event ≡ Refusal.wrongBuffers) × (stepLeaves given event ≡ given)
+
+abbrev pub SettleMisfits : Type 0
+SettleMisfits =
+    (state cards : List ℕ) (looks : ℕ) → isState state ≡ false
+    → (settleAnswers state cards ≡ wrongLength) × ((settleLeaves state cards ≡ state) × (settleCounts state cards looks ≡ looks))
+
+-- ---- Else a call is the model's: decoding what it leaves gives what the model's function gives.
+
+abbrev pub SetupIsTheSetup : Type 0
+SetupIsTheSetup =
+    (fitted : ℕ) (pages state : List ℕ) → setupFits pages state ≡ true
+    → (setupAnswers fitted pages state ≡ setupOf fitted pages .answer) × (busIn (setupLeaves fitted pages state) ≡ setupOf fitted pages .bus)
+
+-- also with memory and ports of wrong lengths, which the model refuses too
+abbrev pub StepIsTheStep : Type 0
+StepIsTheStep =
+    (given : Lent) (event : Event) → placesFit given ≡ true
+    → (stepAnswers given event ≡ answerTo (machineIn given) event .refusal) × (machineIn (stepLeaves given event) ≡ after (machineIn given) event)
+
+abbrev pub AnswerIsTheAnswer : Type 0
+AnswerIsTheAnswer =
+    (given : Lent) (event : Event) → placesFit given ≡ true → hasWrongBuffers (given .memory) (given .ports) ≡ false
+    → answerIn (stepLeaves given event .answer) ≡ answerTo (machineIn given) event
+
+abbrev pub SettleIsTheSettle : Type 0
+SettleIsTheSettle =
+    (state cards : List ℕ) (looks : ℕ) → isState state ≡ true
+    → (settleAnswers state cards ≡ settleOf (busIn state) cards .answer)
+    × ((busIn (settleLeaves state cards) ≡ settleOf (busIn state) cards .bus) × (settleCounts state cards looks ≡ settleOf (busIn state) cards .looks))
+
+-- ---- So is a run of calls. Each is given the bytes of the state that its predecessor left, and lent other buffers as it comes.
+
+pub record Call : Type 0 where
+  pub event : Event
+  pub memory : List ℕ
+  pub ports : List ℕ
+  pub answer : List ℕ
+
+abbrev pub stateAfter : List ℕ → Call → List ℕ
+stateAfter state c = stepLeaves (lent state (c .memory) (c .ports) (c .answer)) (c .event) .state
+
+abbrev pub bytesAfter : List ℕ → List Call → List ℕ
+bytesAfter state [] = state
+bytesAfter state (c ∷ calls) = bytesAfter (stateAfter state c) calls
+
+-- the run of the states themselves: a call without a place for its answer does nothing
+abbrev pub busAfter : Bus → List Call → Bus
+busAfter bus [] = bus
+busAfter bus (c ∷ calls) = busAfter (cond (isAnswer (c .answer)) (after (machine bus (c .memory) (c .ports)) (c .event) .bus) bus) calls
+
+abbrev pub RunIsTheRun : Type 0
+RunIsTheRun =
+    (calls : List Call) (state : List ℕ) → isState state ≡ true
+    → (isState (bytesAfter state calls) ≡ true) × (busIn (bytesAfter state calls) ≡ busAfter (busIn state) calls)
+
+-- ---- A refused call leaves every byte of state, memory and ports as it was.
+
+abbrev pub StepRefusedKeeps : Type 0
+StepRefusedKeeps =
+    (given : Lent) (event : Event) → AreBytes (given .state) → (stepAnswers given event ≡ Refusal.accepted → ⊥)
+    → (stepLeaves given event .state ≡ given .state)
+    × ((stepLeaves given event .memory ≡ given .memory) × (stepLeaves given event .ports ≡ given .ports))
+
+abbrev pub SettleRefusedKeepsBytes : Type 0
+SettleRefusedKeepsBytes =
+    (state cards : List ℕ) → AreBytes state → (settleAnswers state cards ≡ Refusal.accepted → ⊥) → settleLeaves state cards ≡ state
