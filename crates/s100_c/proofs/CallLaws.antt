@@ -1,10 +1,11 @@
 -- What a call answers and leaves, by the lengths that were asked for.
-use mathlib.Core.Path.{_≡_, refl, ap, _∙_}
-use mathlib.Core.Bool.{true, false, _&&_, and-eq-true-iff}
+use mathlib.Core.Path.{_≡_, refl, sym, ap, _∙_}
+use mathlib.Core.Bool.{Bool, true, false, cond, _&&_, and-eq-true-iff}
 use mathlib.Core.List.{List}
-use Prim.Native.Nat.{ℕ, _<_}
+use Prim.Native.Nat.{ℕ, _+_, _<_}
 use lib.Dec.{eqb, ltb}
-use lib.ListN.{length, getD}
+use lib.ListN.{length, getD, drop}
+use lib.Seq.{getD-take, getD-drop}
 use borrow.Author.Tests.{eqb-true, ltb-true, eq-eqb, ne-eqb}
 use Rattle.words.proofs.TestLaws.{then-pick, else-pick}
 use Rattle.bus.specs.Sense.{makesSense}
@@ -13,8 +14,8 @@ use Rattle.judgement.specs.declared.event.Event.{Event}
 use Rattle.events.specs.Machine.{machine}
 use Rattle.events.specs.Step.{after, answerTo, stepped}
 use Rattle.events.specs.declared.steps.Stepped.{Stepped}
-use Rattle.s100_c.specs.Layout.{stateSize, isState, stateBytes, busIn, answerSize, isAnswer, answerBytes}
-use Rattle.s100_c.specs.Calls.{setupFits, Lent, lent, machineIn, placesFit, written, byLengths, noField, fieldOf, entryOf, isSensible}
+use Rattle.s100_c.specs.Layout.{sixteenAt, stateSize, isState, stateBytes, busIn, answerSize, isAnswer, answerBytes}
+use Rattle.s100_c.specs.Calls.{setupFits, Lent, lent, machineIn, placesFit, written, byLengths, noField, isSensible}
 
 -- ---- Step
 
@@ -62,23 +63,26 @@ setup-fits pages state fits =
 
 -- ---- Fields
 
-pub field-found : (field : Bus → ℕ) (state : List ℕ) {bus : Bus} → length state ≡ stateSize → bus ≡ busIn state → field bus ≡ fieldOf field state
-field-found field state size e = then-pick noField (eq-eqb (length state) stateSize size) (ap field e)
+pub field-found : (state : List ℕ) {r field : ℕ} → length state ≡ stateSize → r ≡ field → r ≡ cond (isState state) field noField
+field-found state size e = then-pick noField (eq-eqb (length state) stateSize size) e
 
-pub field-none : (field : Bus → ℕ) (state : List ℕ) → (length state ≡ stateSize → ⊥) → noField ≡ fieldOf field state
-field-none field state other = else-pick (field (busIn state)) (ne-eqb (length state) stateSize other) refl
+pub field-none : (state : List ℕ) (field : ℕ) → (length state ≡ stateSize → ⊥) → noField ≡ cond (isState state) field noField
+field-none state field other = else-pick field (ne-eqb (length state) stateSize other) refl
 
 pub entry-fits : (state : List ℕ) (n : ℕ) → (isState state && ltb n 16) ≡ true → (length state ≡ stateSize) × (n < 16)
 entry-fits state n fits =
     let both = and-eq-true-iff (isState state) (ltb n 16) .0 fits in
     (eqb-true (length state) stateSize (both .0), ltb-true n 16 (both .1))
 
-pub entry-found : (entries : Bus → List ℕ) (state : List ℕ) (n : ℕ) {bus : Bus} → (isState state && ltb n 16) ≡ true → bus ≡ busIn state
-    → getD (entries bus) n 0 ≡ entryOf entries state n
-entry-found entries state n fits e = then-pick noField fits (ap (λ (b : Bus). getD (entries b) n 0) e)
-
-pub entry-none : (entries : Bus → List ℕ) (state : List ℕ) (n : ℕ) → (isState state && ltb n 16) ≡ false → noField ≡ entryOf entries state n
-entry-none entries state n misfit = else-pick (getD (entries (busIn state)) n 0) misfit refl
+-- an entry stands behind the first of its sixteen
+pub entry-there : (at : ℕ) (state : List ℕ) (n : ℕ)
+    → cond (isState state && ltb n 16) (getD state (at + n) 0) noField ≡ cond (isState state && ltb n 16) (getD (sixteenAt at state) n 0) noField
+entry-there at state n = go (isState state && ltb n 16) refl
+  where
+    go : (b : Bool) → (isState state && ltb n 16) ≡ b → cond b (getD state (at + n) 0) noField ≡ cond b (getD (sixteenAt at state) n 0) noField
+    go true fits =
+        sym (getD-take 16 (drop at state) n 0 (entry-fits state n fits .1) ∙ getD-drop at state n 0)
+    go false misfit = refl
 
 pub sense-found : (state : List ℕ) {bus : Bus} → length state ≡ stateSize → bus ≡ busIn state → makesSense bus ≡ isSensible state
 sense-found state size e = rw (eq-eqb (length state) stateSize size) (ap makesSense e)

@@ -18,6 +18,18 @@ use events::Answer;
 
 pub const STATE_SIZE: usize = 38;
 
+pub const FITTED_AT: usize = 0;
+
+pub const PAGES_AT: usize = 2;
+
+pub const PHASE_AT: usize = 18;
+
+pub const CONTENDERS_AT: usize = 19;
+
+pub const DRIVEN_AT: usize = 21;
+
+pub const GRANTED_AT: usize = 37;
+
 pub const ANSWER_SIZE: usize = 9;
 
 fn joined(high: u8, low: u8) -> u16
@@ -27,7 +39,7 @@ fn joined(high: u8, low: u8) -> u16
 }
 
 // The number in two bytes, the high one first.
-fn word_at(bytes: &[u8], at: usize) -> u16
+pub fn word_at(bytes: &[u8], at: usize) -> u16
     requires { ⌜ at + 2 ≤ length (now bytes) ⌝ }
     ensures { λ r. ⌜ r ≡ wordAt at (now (bytes .entry)) ⌝ }
 {
@@ -53,12 +65,12 @@ pub fn bus_in(state: &[u8]) -> Bus
     ensures { λ r. ⌜ r ≡ busIn (now (state .entry)) ⌝ }
 {
     Bus {
-        fitted: word_at(state, 0),
-        pages: sixteen_at(state, 2),
-        phase: state[18],
-        contenders: word_at(state, 19),
-        driven: sixteen_at(state, 21),
-        granted: state[37],
+        fitted: word_at(state, FITTED_AT),
+        pages: sixteen_at(state, PAGES_AT),
+        phase: state[PHASE_AT],
+        contenders: word_at(state, CONTENDERS_AT),
+        driven: sixteen_at(state, DRIVEN_AT),
+        granted: state[GRANTED_AT],
     }
 }
 
@@ -87,12 +99,12 @@ pub fn put_bus(bus: Bus, state: &mut [u8])
 {
     let pages = bus.pages;
     let driven = bus.driven;
-    put_word(state, 0, bus.fitted);
-    put_sixteen(state, 2, pages);
-    state[18] = bus.phase;
-    put_word(state, 19, bus.contenders);
-    put_sixteen(state, 21, driven);
-    state[37] = bus.granted;
+    put_word(state, FITTED_AT, bus.fitted);
+    put_sixteen(state, PAGES_AT, pages);
+    state[PHASE_AT] = bus.phase;
+    put_word(state, CONTENDERS_AT, bus.contenders);
+    put_sixteen(state, DRIVEN_AT, driven);
+    state[GRANTED_AT] = bus.granted;
 }
 
 pub fn put_answer(answer: Answer, bytes: &mut [u8])

@@ -1,5 +1,5 @@
 -- By the length.
-use mathlib.Core.Path.{_∙_}
+use mathlib.Core.Path.{ap, _∙_}
 use borrow.Author.Needs.{needs}
 use Rattle.bus.specs.State.{linesOf}
 use Rattle.s100_c.proofs.CallLaws.{field-found, field-none}
@@ -13,5 +13,5 @@ s100-lines-spec =
     (λ c κs. search needs)
     (λ c κs. search needs)
     (λ c. search needs)
-    (λ c. c .lines .ensures ∙ field-found linesOf (c .before .before .before .before .args .state .now) (c .before .before .if1 .taken) (c .before .bus-in .ensures))
-    (λ c. field-none linesOf (c .before .before .args .state .now) (c .if1 .left)))
+    (λ c. field-found (c .before .before .before .before .args .state .now) (c .before .before .if1 .taken) (c .lines .ensures ∙ ap linesOf (c .before .bus-in .ensures)))
+    (λ c. field-none (c .before .before .args .state .now) _ (c .if1 .left)))

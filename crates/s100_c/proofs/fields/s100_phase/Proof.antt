@@ -1,14 +1,13 @@
--- By the length.
+-- The field of the decoded bus stands there.
 use borrow.Author.Needs.{needs}
-use Rattle.s100_c.proofs.CallLaws.{field-found, field-none}
+use Rattle.s100_c.specs.Layout.{busIn}
 use Rattle.s100_c.proofs.fields.s100_phase.Statement.{statement}
 use Rattle.s100_c.proofs.fields.s100_phase.Tie as tie
 
 pub s100-phase-spec : {M : Type 1} → statement M
+unfolding busIn
 s100-phase-spec =
     tie.close
     (tie.spec
     (λ c κs. search needs)
-    (λ c. search needs)
-    (λ c. field-found (λ bus. bus .phase) (c .before .before .before .before .args .state .now) (c .before .before .if1 .taken) (c .before .bus-in .ensures))
-    (λ c. field-none (λ bus. bus .phase) (c .before .before .args .state .now) (c .if1 .left)))
+    (λ c. c .byte-field .ensures))
