@@ -39,8 +39,8 @@ pub extern "C" fn s100_setup(fitted: u16, pages: &[u8], state: &mut [u8]) -> u8
 {
     if (pages.len() == 16) & (state.len() == STATE_SIZE) {
         let set = Bus::setup(fitted, sixteen_at(pages, 0));
-        let bus = set.bus;
-        put_bus(bus, state);
+        let left = set.bus;
+        put_bus(left, state);
         set.answer
     } else {
         WRONG_LENGTH
@@ -91,10 +91,11 @@ fn take_step(
     ensures answers { λ r. ⌜ r ≡ answerTo (machineIn (lent (now (state .entry)) (now (memory .entry)) (now (ports .entry)) (now (answer .entry)))) event .refusal ⌝ }
     ensures leaves { λ _. ⌜ lent (now (state .exit)) (now (memory .exit)) (now (ports .exit)) (now (answer .exit)) ≡ written (lent (now (state .entry)) (now (memory .entry)) (now (ports .entry)) (now (answer .entry))) event ⌝ }
 {
-    let stepped = step(bus_in(state), event, memory, ports);
-    let bus = stepped.bus;
+    let given = bus_in(state);
+    let stepped = step(given, event, memory, ports);
+    let next = stepped.bus;
     let answered = stepped.answer;
-    put_bus(bus, state);
+    put_bus(next, state);
     put_answer(answered, answer);
     answered.refusal
 }
@@ -107,8 +108,8 @@ pub extern "C" fn s100_settle(state: &mut [u8], cards: &[u8], looks: &mut usize)
 {
     if state.len() == STATE_SIZE {
         let settled = bus_in(state).settle(cards);
-        let bus = settled.bus;
-        put_bus(bus, state);
+        let left = settled.bus;
+        put_bus(left, state);
         *looks = settled.looks;
         settled.answer
     } else {

@@ -26,10 +26,10 @@ put-bus-spec =
     let room : 37 < length (c .before .before .put-sixteen2 .last .0) = omega (arith, c .before .before .put-sixteen2 .kept .0, c .before .before .before .before .before .before .put-word2 .kept .0, length-set (c .before .before .before .before .before .before .before .before .before .before .put-sixteen .last .0) 18 (c .before .before .before .before .before .before .before .before .before .before .before .before .before .before .before .before .before .before .before .args .bus .phase), c .before .before .before .before .before .before .before .before .before .before .put-sixteen .kept .0, c .before .before .before .before .before .before .before .before .before .before .before .before .before .before .put-word .kept .0, c .before .before .before .before .before .before .before .before .before .before .before .before .before .before .before .before .before .before .before .pre) in
     room)
     (λ c.
-    length-set (c .before .before .put-sixteen2 .last .0) 37 (c .before .before .before .before .before .before .before .before .before .before .before .before .before .before .before .before .before .before .before .args .bus .granted)
+    length-set (c .before .before .put-sixteen2 .last .0) 37 _
     ∙ c .before .before .put-sixteen2 .kept .0
     ∙ c .before .before .before .before .before .before .put-word2 .kept .0
-    ∙ length-set (c .before .before .before .before .before .before .before .before .before .before .put-sixteen .last .0) 18 (c .before .before .before .before .before .before .before .before .before .before .before .before .before .before .before .before .before .before .before .args .bus .phase)
+    ∙ length-set (c .before .before .before .before .before .before .before .before .before .before .put-sixteen .last .0) 18 _
     ∙ c .before .before .before .before .before .before .before .before .before .before .put-sixteen .kept .0
     ∙ c .before .before .before .before .before .before .before .before .before .before .before .before .before .before .put-word .kept .0)
     (λ c.
