@@ -1,0 +1,75 @@
+"""A word over an eight-bit and over a sixteen-bit page, and a request while the bus is being given back, in Python.
+
+python3 halves.py LIBRARY, a shared library that was made of libs100_c.a.
+"""
+import collections
+import ctypes
+import struct
+import sys
+
+# As include/s100.h numbers them.
+REQUEST, LOOK, ACKNOWLEDGE, BEGIN_ONE, TAKE, WORD_READ, WORD_WRITE, BEGIN_TWO, GIVE_BACK = 1, 2, 3, 4, 5, 9, 10, 13, 14
+PERMANENT_MASTER = 16
+EIGHT_BIT, SIXTEEN_BIT = 1, 2
+SIGNALS = ["HOLD", "pHLDA", "ADSB", "SDSB", "DODSB", "CDSB", "SIXTN", "sXTRQ"]
+
+Answer = collections.namedtuple("Answer", "refusal phase granted lines signals status cycles datum")
+
+library = ctypes.CDLL(sys.argv[1])
+BYTES, LENGTH, U8, U16, U32 = ctypes.POINTER(ctypes.c_uint8), ctypes.c_size_t, ctypes.c_uint8, ctypes.c_uint16, ctypes.c_uint32
+library.s100_setup.argtypes = [U16, BYTES, LENGTH, BYTES, LENGTH]
+library.s100_setup.restype = U8
+library.s100_step.argtypes = [BYTES, LENGTH, U8, U8, U32, U16, BYTES, LENGTH, BYTES, LENGTH, BYTES, LENGTH]
+library.s100_step.restype = U8
+
+
+class Bus:
+    """A bus with its memory and ports, in buffers that are lent to each call."""
+
+    def __init__(self, cards, pages):
+        self.state, self.memory, self.ports = (U8 * 38)(), (U8 * 0x10000)(), (U8 * 0x100)()
+        if library.s100_setup(cards, (U8 * 16)(*pages), 16, self.state, 38) != 0:
+            raise ValueError("setup was refused")
+
+    def step(self, kind, speaker=0, address=0, datum=0):
+        answer = (U8 * 9)()
+        lent = (self.memory, len(self.memory), self.ports, len(self.ports), answer, len(answer))
+        library.s100_step(self.state, len(self.state), kind, speaker, address, datum, *lent)
+        return Answer._make(struct.unpack(">7BH", answer))
+
+
+def true_signals(answer):
+    return " ".join(name for bit, name in enumerate(SIGNALS) if answer.signals >> bit & 1) or "none"
+
+
+def write_and_read(bus, page, address):
+    wrote = bus.step(WORD_WRITE, PERMANENT_MASTER, address, 0x1234)
+    print(f"write of 1234 to {page} page: answer {wrote.refusal:02X}, cycles {wrote.cycles}, signals {true_signals(wrote)}")
+    # Against the common belief, the lower address goes on DO (01, "Bytes, words, status").
+    print(f"  even address, on the DO lines: {bus.memory[address]:02X}")
+    print(f"  odd address, on the DI lines: {bus.memory[address + 1]:02X}")
+    read = bus.step(WORD_READ, PERMANENT_MASTER, address)
+    print(f"read of it: {read.datum:04X}, cycles {read.cycles}, signals {true_signals(read)}")
+
+
+def print_request(answer):
+    print(f"card 6 requests the bus: answer {answer.refusal:02X}, phase {answer.phase}, signals {true_signals(answer)}")
+
+
+def print_phase(title, answer):
+    print(f"{title}: phase {answer.phase}, signals {true_signals(answer)}")
+
+
+bus = Bus(1 << 2 | 1 << 6, [0, EIGHT_BIT, SIXTEEN_BIT])
+write_and_read(bus, "an eight-bit", 0x1000)
+write_and_read(bus, "a sixteen-bit", 0x2000)
+
+bus.step(REQUEST, datum=1 << 2)
+bus.step(LOOK, 2)
+bus.step(ACKNOWLEDGE)
+bus.step(BEGIN_ONE, 2)
+print_phase("card 2 has the bus", bus.step(TAKE, 2))
+print_phase("transfer two", bus.step(BEGIN_TWO, 2))
+print_request(bus.step(REQUEST, datum=1 << 6))  # HOLD is false already, but pHLDA isn't
+print_phase("card 2 gives it back", bus.step(GIVE_BACK, 2))
+print_request(bus.step(REQUEST, datum=1 << 6))

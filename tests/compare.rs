@@ -1,0 +1,196 @@
+//! Compares the proved library, called through its C face, with an independent model of the rules in 01, and tells what was reached.
+//!
+//! Usage: compare [CALLS [SEED]], where CALLS is the least number of random calls. It exits 0 only if the two agreed in everything and
+//! everything was reached that ought to be.
+
+mod both;
+mod draw;
+mod face;
+mod model;
+mod rounds;
+mod tally;
+
+use both::{Both, Call, State, RIGHT};
+use draw::Chance;
+use face::{Event, Field, GRANTED_AT, NOBODY, PAGES_AT, PAGES_SIZE, PERMANENT_MASTER, STATE_SIZE};
+use model::Refusal;
+
+fn setup(chance: &mut Chance) -> Call {
+    Call::Setup { fitted: chance.next() as u16, pages: draw::page_codes(chance) }
+}
+
+/// A call that has nothing to do with the one before.
+fn single(both: &mut Both, chance: &mut Chance) {
+    let state = draw::state(chance);
+    both.place(&state);
+    let call = match chance.below(10) {
+        0 => setup(chance),
+        1 | 2 => Call::Settle { cards: draw::list(chance, &state) },
+        3 => Call::Field(draw::field(chance)),
+        _ => Call::Step(draw::event(chance, &state)),
+    };
+    both.make(call, draw::lengths(chance));
+}
+
+/// Calls of which each is given the state that the one before left.
+fn walk(both: &mut Both, chance: &mut Chance, calls: usize) {
+    while both.make(setup(chance), RIGHT) != 0 {}
+    for _ in 0..calls {
+        let state = both.state();
+        let call = match chance.below(30) {
+            0 => Call::Settle { cards: draw::list(chance, &state) },
+            1 => Call::Field(draw::field(chance)),
+            2..=8 => Call::Step(draw::event(chance, &state)),
+            _ => Call::Step(draw::next_event(chance, &state)),
+        };
+        both.make(call, draw::lengths(chance));
+    }
+}
+
+fn random_calls(both: &mut Both, chance: &mut Chance, calls: u64) {
+    let end = both.calls + calls;
+    while both.calls < end {
+        if chance.one_in(200) {
+            let long = chance.below(400);
+            walk(both, chance, long);
+        } else {
+            single(both, chance);
+        }
+    }
+}
+
+/// Each kind with each speaker in each phase, otherwise with fields such as the kind may have.
+fn kinds_and_speakers(both: &mut Both, chance: &mut Chance) {
+    for phase in 0..=5 {
+        let state = draw::sensible_in(chance, phase);
+        for kind in 0..=255 {
+            for speaker in 0..=255 {
+                both.place(&state);
+                both.step(Event { speaker, ..draw::event_of_kind(chance, &state, kind) });
+            }
+        }
+    }
+}
+
+/// Each value of each byte of a state, in each phase.
+fn bytes_of_a_state(both: &mut Both, chance: &mut Chance, cases: usize) {
+    for case in 0..6 * cases {
+        let state = draw::sensible_in(chance, (case % 6) as u8);
+        for at in 0..STATE_SIZE {
+            for byte in 0..=255 {
+                let mut other = state;
+                other[at] = byte;
+                both.place(&other);
+                both.read(Field::MakesSense);
+                both.step(draw::next_event(chance, &other));
+            }
+        }
+    }
+}
+
+/// Every code in every place of the sixteen.
+fn page_codes(both: &mut Both, chance: &mut Chance) {
+    let mut nothing: State = [0; STATE_SIZE];
+    nothing[GRANTED_AT] = NOBODY;
+    for place in 0..PAGES_SIZE {
+        for code in 0..=255 {
+            let mut pages: Vec<u8> = (0..PAGES_SIZE).map(|_| chance.between(0, 2)).collect();
+            pages[place] = code;
+            let number = both.make(Call::Setup { fitted: chance.next() as u16, pages }, RIGHT);
+            if code <= 2 {
+                both.expect(number == 0 && both.state()[PAGES_AT + place] == code, "setup takes page codes up to 2");
+            } else {
+                both.expect(number == Refusal::BadPage as u32 && both.state() == nothing, "setup refuses page codes above 2");
+            }
+        }
+    }
+}
+
+fn senseless_states(both: &mut Both, chance: &mut Chance, cases: usize) {
+    for (way, draw_state) in draw::SENSELESS {
+        for _ in 0..cases {
+            let state = draw_state(chance);
+            both.place(&state);
+            let sense = both.read(Field::MakesSense);
+            both.expect(sense == 0, way);
+            both.read(Field::Lines);
+            let number = both.step(draw::next_event(chance, &state));
+            both.expect(number == Refusal::Senseless as u32, way);
+            let number = both.settle(draw::list(chance, &state));
+            both.expect(number == Refusal::Senseless as u32, way);
+        }
+    }
+}
+
+/// What a word written and then read leaves and shows, over a page of this code: the bytes, the datum and the cycles.
+fn word_over(both: &mut Both, page: u8, write: Event, before: [u8; 2]) -> ([u8; 2], [u8; 2], u8) {
+    let at = write.address as usize;
+    let mut state = both.state();
+    state[PAGES_AT + at / 0x1000] = page;
+    both.place(&state);
+    both.place_memory(at, &before);
+    let written = both.step(write);
+    let bytes = [both.library.memory[at], both.library.memory[at + 1]];
+    let read = both.step(Event { kind: 0x09, datum: 0, ..write });
+    both.expect(written == 0 && read == 0, "a word at an even address of a present page is accepted");
+    let answer = &both.library.answer;
+    (bytes, [answer[7], answer[8]], answer[6])
+}
+
+/// 01, "Bytes, words, status": the width of the page is seen in the cycles and nowhere else.
+fn words(both: &mut Both, chance: &mut Chance, cases: usize) {
+    for _ in 0..cases {
+        let free = draw::sensible_in(chance, 0);
+        both.place(&free);
+        let (address, datum, before) = (chance.next() as u32 & 0xFFFE, chance.next() as u16, (chance.next() as u16).to_be_bytes());
+        let write = Event { kind: 0x0A, speaker: PERMANENT_MASTER, address, datum };
+        let halves = [(datum >> 8) as u8, (datum & 0xFF) as u8];
+        let eight_bit = word_over(both, 1, write, before);
+        both.expect(eight_bit == (halves, halves, 2), "over an eight-bit page the high half goes to the even address, in two cycles");
+        let sixteen_bit = word_over(both, 2, write, before);
+        both.expect(sixteen_bit == (halves, halves, 1), "over a sixteen-bit page the high half goes to the even address, in one cycle");
+    }
+}
+
+fn arguments() -> Option<(u64, u64)> {
+    let mut numbers = [2_000_000, 1];
+    let mut given = std::env::args().skip(1);
+    for number in &mut numbers {
+        if let Some(text) = given.next() {
+            *number = text.parse().ok()?;
+        }
+    }
+    given.next().is_none().then_some((numbers[0], numbers[1]))
+}
+
+fn main() {
+    let Some((calls, seed)) = arguments() else {
+        eprintln!("usage: compare [CALLS [SEED]]");
+        std::process::exit(2);
+    };
+    let (mut both, mut chance) = (Both::new(seed), Chance(seed));
+    random_calls(&mut both, &mut chance, calls);
+    kinds_and_speakers(&mut both, &mut chance);
+    bytes_of_a_state(&mut both, &mut chance, 3);
+    senseless_states(&mut both, &mut chance, 300);
+    page_codes(&mut both, &mut chance);
+    words(&mut both, &mut chance, 5000);
+    rounds::three_rounds_fall_short(&mut both, &mut chance);
+    rounds::acknowledge_waits(&mut both, &mut chance, 20_000);
+    rounds::settle_counts(&mut both, &mut chance, 5000);
+    let late = rounds::every_set(&mut both, &mut chance);
+    let late_small = rounds::small_sets(&mut both, &mut chance, 20_000);
+
+    both.tally.print();
+    println!("contender sets taken through four rounds: 65535, for {late} of which three were too few");
+    println!("small sets taken through four rounds: 20000, for {late_small} of which three were too few");
+    println!("calls in all: {} (seed {seed})", both.calls);
+    let mut faults = both.tally.faults();
+    if late_small == 0 {
+        faults.push("three rounds were always enough".to_string());
+    }
+    for fault in &faults {
+        println!("not as it ought to be: {fault}");
+    }
+    std::process::exit(i32::from(!faults.is_empty()));
+}
