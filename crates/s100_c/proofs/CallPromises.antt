@@ -31,6 +31,7 @@ use Rattle.events.proofs.Refused.{refused-keeps, refused-answers}
 use Rattle.events.proofs.Stays.{sense-kept-by-events}
 use Rattle.s100_c.specs.Layout.{stateSize, isState, stateBytes, busIn, isAnswer, answerIn}
 use Rattle.s100_c.specs.Calls.{Lent, lent, machineIn, placesFit, written, stepAnswers, stepLeaves, settleAnswers, settleLeaves}
+use Rattle.s100_c.specs.Run.{Call, stateAfter, bytesAfter, busAfter}
 use Rattle.s100_c.specs.Promises.{
   Whole,
   AreBytes,
@@ -42,10 +43,6 @@ use Rattle.s100_c.specs.Promises.{
   StepIsTheStep,
   AnswerIsTheAnswer,
   SettleIsTheSettle,
-  Call,
-  stateAfter,
-  bytesAfter,
-  busAfter,
   RunIsTheRun,
   StepRefusedKeeps,
   SettleRefusedKeepsBytes,

@@ -1,8 +1,8 @@
 -- What is promised of the C face. The proof of each stands in proofs/ under its name in lower case, with hyphens.
 use Prim.Native.Nat.{ℕ, _<_}
 use mathlib.Core.Path.{_≡_}
-use mathlib.Core.Bool.{true, false, cond}
-use mathlib.Core.List.{List, [], _∷_}
+use mathlib.Core.Bool.{true, false}
+use mathlib.Core.List.{List}
 use lib.ListN.{length, getD}
 use Rattle.bus.specs.Refusal as Refusal
 use Rattle.bus.specs.Sense.{makesSense}
@@ -11,17 +11,15 @@ use Rattle.bus.specs.Settle.{settleOf}
 use Rattle.bus.specs.declared.state.Bus.{Bus}
 use Rattle.judgement.specs.Refusals.{hasWrongBuffers}
 use Rattle.judgement.specs.declared.event.Event.{Event}
-use Rattle.events.specs.Machine.{machine}
 use Rattle.events.specs.Step.{after, answerTo}
 use Rattle.events.specs.declared.answers.Answer.{Answer}
-use Rattle.s100_c.specs.Layout.{stateSize, isState, stateBytes, busIn, answerSize, isAnswer, answerBytes, answerIn}
+use Rattle.s100_c.specs.Layout.{stateSize, isState, stateBytes, busIn, answerSize, answerBytes, answerIn}
 use Rattle.s100_c.specs.Calls.{
   wrongLength,
   setupFits,
   setupAnswers,
   setupLeaves,
   Lent,
-  lent,
   machineIn,
   placesFit,
   stepAnswers,
@@ -30,6 +28,7 @@ use Rattle.s100_c.specs.Calls.{
   settleLeaves,
   settleCounts,
 }
+use Rattle.s100_c.specs.Run.{Call, bytesAfter, busAfter}
 
 -- ---- The layout
 
@@ -101,25 +100,7 @@ SettleIsTheSettle =
     → (settleAnswers state cards ≡ settleOf (busIn state) cards .answer)
     × ((busIn (settleLeaves state cards) ≡ settleOf (busIn state) cards .bus) × (settleCounts state cards looks ≡ settleOf (busIn state) cards .looks))
 
--- ---- So is a run of calls. Each is given the bytes of the state that its predecessor left, and lent other buffers as it comes.
-
-pub record Call : Type 0 where
-  pub event : Event
-  pub memory : List ℕ
-  pub ports : List ℕ
-  pub answer : List ℕ
-
-abbrev pub stateAfter : List ℕ → Call → List ℕ
-stateAfter state c = stepLeaves (lent state (c .memory) (c .ports) (c .answer)) (c .event) .state
-
-abbrev pub bytesAfter : List ℕ → List Call → List ℕ
-bytesAfter state [] = state
-bytesAfter state (c ∷ calls) = bytesAfter (stateAfter state c) calls
-
--- the run of the states themselves: a call without a place for its answer does nothing
-abbrev pub busAfter : Bus → List Call → Bus
-busAfter bus [] = bus
-busAfter bus (c ∷ calls) = busAfter (cond (isAnswer (c .answer)) (after (machine bus (c .memory) (c .ports)) (c .event) .bus) bus) calls
+-- ---- So is a run of calls.
 
 abbrev pub RunIsTheRun : Type 0
 RunIsTheRun =
