@@ -30,23 +30,9 @@ use Rattle.events.specs.declared.answers.Answer.{Answer}
 use Rattle.events.proofs.Refused.{refused-keeps, refused-answers}
 use Rattle.events.proofs.Stays.{sense-kept-by-events}
 use Rattle.s100_c.specs.Layout.{stateSize, isState, stateBytes, busIn, isAnswer, answerIn}
-use Rattle.s100_c.specs.Calls.{Lent, lent, machineIn, placesFit, written, stepAnswers, stepLeaves, settleAnswers, settleLeaves}
-use Rattle.s100_c.specs.Run.{Call, stateAfter, bytesAfter, busAfter}
-use Rattle.s100_c.specs.Promises.{
-  Whole,
-  AreBytes,
-  SetupMisfits,
-  StepMisplaced,
-  StepMisfits,
-  SettleMisfits,
-  SetupIsTheSetup,
-  StepIsTheStep,
-  AnswerIsTheAnswer,
-  SettleIsTheSettle,
-  RunIsTheRun,
-  StepRefusedKeeps,
-  SettleRefusedKeepsBytes,
-}
+use Rattle.s100_c.specs.Calls.{Lent, lent, machineIn, placesFit, written, stepAnswers, stepLeaves, settleLeaves}
+use Rattle.s100_c.specs.Run.{Call, stateAfter, busAfter}
+use Rattle.s100_c.specs.Promises.{Whole, SetupMisfits, StepMisplaced, StepMisfits, SettleMisfits, SetupIsTheSetup, StepIsTheStep, AnswerIsTheAnswer, SettleIsTheSettle, RunIsTheRun, StepRefusedKeeps, SettleRefusedKeepsBytes}
 use Rattle.s100_c.proofs.CallLaws.{setup-fits, places-fit}
 use Rattle.s100_c.proofs.ReadBack.{state-reads-back, sensible-reads-back, bytes-whole, bytes-read-back, answer-reads-back}
 

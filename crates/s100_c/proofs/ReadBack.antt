@@ -1,18 +1,15 @@
 -- What is put is read back, and what is read is put back.
 use mathlib.Core.Path.{_≡_, refl, sym, ap, ap₂, _∙_}
-use mathlib.Core.Bool.{true}
 use mathlib.Core.List.{List, [], _∷_, _++_}
-use Prim.Native.Nat.{ℕ, suc, _+_, _*_, _/_, _%_, _<_, _≤_}
+use Prim.Native.Nat.{ℕ, _+_, _*_, _/_, _%_, _<_}
 use native.Mathlib.Omega.{arith}
 use lib.ListN.{length, getD, take, drop, length-drop, take-append-drop}
 use lib.Seq.{length-take-le, drop-cons, drop-drop, drop-length, drop-append-add, take-at, getD-append-add}
 use Rattle.bus.specs.State.{stateOf}
-use Rattle.bus.specs.Sense.{makesSense}
 use Rattle.bus.specs.declared.state.Bus.{Bus}
 use Rattle.bus.proofs.SenseLaws.{sense-means}
-use Rattle.events.specs.declared.answers.Answer.{Answer}
-use Rattle.s100_c.specs.Layout.{twoBytes, wordAt, sixteenAt, stateSize, stateBytes, busIn, answerBytes, answerIn}
-use Rattle.s100_c.specs.Promises.{Whole, AreBytes, StateReadsBack, SensibleReadsBack, BytesReadBack, AnswerReadsBack}
+use Rattle.s100_c.specs.Layout.{twoBytes, sixteenAt, stateSize, stateBytes, busIn, answerBytes, answerIn}
+use Rattle.s100_c.specs.Promises.{Whole, StateReadsBack, SensibleReadsBack, BytesReadBack, AnswerReadsBack}
 use Rattle.s100_c.proofs.LayoutLaws.{state-long}
 
 -- ---- Put, then read

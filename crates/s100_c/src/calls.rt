@@ -1,8 +1,6 @@
 // Setup, step and settle on a state in a lent buffer.
 ghost use mathlib.Core.Path.{_≡_};
-ghost use mathlib.Core.Bool.{false};
 ghost use lib.ListN.{length};
-ghost use Rattle.judgement.specs.Refusals.{hasWrongBuffers};
 ghost use Rattle.judgement.specs.Table.{eventOf};
 ghost use Rattle.events.specs.Step.{answerTo};
 ghost use Rattle.s100_c.specs.Layout.{stateSize, answerSize};
