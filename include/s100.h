@@ -2,11 +2,13 @@
  *
  * The library keeps nothing between calls. A caller owns the state, the memory and the ports, lends them to a call and finds them changed
  * afterwards. Each buffer is a pointer with the number of its bytes behind it. A call judges that number and never reads or writes beyond
- * it. The rest is the caller's duty: a pointer is good for so many bytes and is not NULL, and a buffer that a call writes overlaps no other
- * buffer of that call.
+ * it. The rest is the caller's duty: no pointer is NULL, not even one to no bytes; each is good for its bytes, and that to a number for that
+ * number; and what a call writes overlaps nothing else that it is lent. Calls may run at the same time unless one of them writes what
+ * another is lent.
  *
  * Whatever the bytes are, every call ends, with an answer that depends on nothing but what it is given. What is proved of each is in
- * crates/s100_c/specs. Nothing checks this file against the library: it was written by hand, and tests/compare calls through it.
+ * crates/s100_c/specs. No proof covers this file, which was written by hand: tests/header.c and examples/calling/printed.c include it, and
+ * tests/face.rs repeats its declarations in Rust.
  */
 #ifndef S100_H
 #define S100_H
@@ -27,13 +29,14 @@ extern "C" {
 #define S100_MEMORY_SIZE 65536
 #define S100_PORTS_SIZE 256
 
-/* ---- The bytes of a state. A field of two bytes has its high byte first. Any 38 bytes are a state, though not all of them make sense. */
+/* ---- The bytes of a state. A field of two bytes has its high byte first; in a set of cards, card n is the bit of weight 1 << n. Any 38 bytes
+ * are a state, though not all of them make sense. */
 
-#define S100_FITTED_AT 0      /* 2 bytes: the fitted cards, bit n for card n */
-#define S100_PAGES_AT 2       /* 16 bytes: a code for each 4,096 bytes of memory, page 0 first */
+#define S100_FITTED_AT 0      /* 2 bytes: the set of fitted cards */
+#define S100_PAGES_AT 2       /* 16 bytes: page codes, that of address 0 first; a page has 4,096 bytes */
 #define S100_PHASE_AT 18      /* 1 byte */
-#define S100_CONTENDERS_AT 19 /* 2 bytes: the contenders, bit n for card n */
-#define S100_DRIVEN_AT 21     /* 16 bytes: what each card drives on the priority lines, card 0 first */
+#define S100_CONTENDERS_AT 19 /* 2 bytes: the set of contenders */
+#define S100_DRIVEN_AT 21     /* 16 bytes: the cards' levels on the priority lines, card 0's first */
 #define S100_GRANTED_AT 37    /* 1 byte: the granted card, or S100_NOBODY */
 
 #define S100_NOBODY 0xFF
@@ -44,23 +47,25 @@ extern "C" {
 #define S100_PAGE_SIXTEEN_BIT 2
 
 /* Phases. */
-#define S100_FREE 0
-#define S100_ARBITRATION 1
-#define S100_GRANTED 2
-#define S100_TRANSFER_ONE 3
-#define S100_OWNED 4
-#define S100_TRANSFER_TWO 5
+#define S100_PHASE_FREE 0
+#define S100_PHASE_ARBITRATION 1
+#define S100_PHASE_GRANTED 2
+#define S100_PHASE_TRANSFER_ONE 3
+#define S100_PHASE_OWNED 4
+#define S100_PHASE_TRANSFER_TWO 5
 
-/* ---- The bytes of an answer, in the order of the text program's answer line: printed as hexadecimal digits, they are that line. */
+/* ---- The bytes of an answer, in the order of the text program's answer line: printed as hexadecimal digits, they are that line. Behind a
+ * refusal stands what the unchanged bus shows, with no cycles and no datum; behind S100_REFUSED_SENSELESS every byte is 0, the granted card's
+ * too, since there is no bus to show. */
 
 #define S100_ANSWER_REFUSAL_AT 0 /* 1 byte: one of the answers below */
 #define S100_ANSWER_PHASE_AT 1   /* 1 byte */
-#define S100_ANSWER_GRANTED_AT 2 /* 1 byte */
+#define S100_ANSWER_GRANTED_AT 2 /* 1 byte: the granted card, or S100_NOBODY */
 #define S100_ANSWER_LINES_AT 3   /* 1 byte: what the priority lines show */
 #define S100_ANSWER_SIGNALS_AT 4 /* 1 byte */
-#define S100_ANSWER_STATUS_AT 5  /* 1 byte */
-#define S100_ANSWER_CYCLES_AT 6  /* 1 byte: bus cycles taken, 1 or 2, or 0 if the event was none */
-#define S100_ANSWER_DATUM_AT 7   /* 2 bytes, the high one first: what was read or written */
+#define S100_ANSWER_STATUS_AT 5  /* 1 byte: 0 unless a cycle was accepted */
+#define S100_ANSWER_CYCLES_AT 6  /* 1 byte: bus cycles taken, 1 or 2, and 0 as above */
+#define S100_ANSWER_DATUM_AT 7   /* 2 bytes, the high one first: what was read or written, and 0 as above */
 
 /* Signals. */
 #define S100_HOLD 0x01
@@ -79,57 +84,61 @@ extern "C" {
 #define S100_SOUT 0x08
 #define S100_SWO 0x10
 
-/* ---- Events: kinds, and who speaks: a card by its number, 0 to 15, or the permanent master. */
+/* ---- Events. Behind each kind stand the fields that it has and the phases in which it can be accepted. A field that it doesn't have must be
+ * 0, the speaker too. */
 
-#define S100_REQUEST 0x01
-#define S100_LOOK 0x02
-#define S100_ACKNOWLEDGE 0x03
-#define S100_BEGIN_TRANSFER_ONE 0x04
-#define S100_TAKE_BUS 0x05
-#define S100_BYTE_READ 0x06
-#define S100_OPCODE_FETCH 0x07
-#define S100_BYTE_WRITE 0x08
-#define S100_WORD_READ 0x09
-#define S100_WORD_WRITE 0x0A
-#define S100_INPUT 0x0B
-#define S100_OUTPUT 0x0C
-#define S100_BEGIN_TRANSFER_TWO 0x0D
-#define S100_GIVE_BACK 0x0E
-#define S100_RESET 0x0F
+#define S100_REQUEST 0x01            /* datum: the set of cards that request; phase 0 */
+#define S100_LOOK 0x02               /* speaker: a contender; phase 1 */
+#define S100_ACKNOWLEDGE 0x03        /* no field; phase 1 */
+#define S100_BEGIN_TRANSFER_ONE 0x04 /* speaker: the granted card; phase 2 */
+#define S100_TAKE_BUS 0x05           /* speaker: the granted card; phase 3 */
+#define S100_BYTE_READ 0x06          /* speaker: the master, address; phases 0, 1, 4, as with all cycles */
+#define S100_OPCODE_FETCH 0x07       /* speaker: the master, address */
+#define S100_BYTE_WRITE 0x08         /* speaker: the master, address, datum: a byte */
+#define S100_WORD_READ 0x09          /* speaker: the master, address: even */
+#define S100_WORD_WRITE 0x0A         /* speaker: the master, address: even, datum: the high half goes to that address */
+#define S100_INPUT 0x0B              /* speaker: the master, address: a port */
+#define S100_OUTPUT 0x0C             /* speaker: the master, address: a port, datum: a byte */
+#define S100_BEGIN_TRANSFER_TWO 0x0D /* speaker: the granted card; phase 4 */
+#define S100_GIVE_BACK 0x0E          /* speaker: the granted card; phase 5 */
+#define S100_RESET 0x0F              /* no field; any phase */
 
+/* A speaker is a card, by its number, 0 to 15, or the permanent master, who is the master of cycles in phases 0 and 1; in phase 4 it is the
+ * granted card. */
 #define S100_PERMANENT_MASTER 0x10
 
-/* ---- Answers: 0, or why the call was refused; of several reasons the one with the lowest number. */
+/* ---- Answers: 0, or why the call was refused; of several reasons the one with the lowest number. Setup answers 00 or 0B, step 00 to 0A,
+ * settle 00, 02, 03 or 05 to 08. (0C is for lines of text, which the library doesn't read.) */
 
 #define S100_ACCEPTED 0x00
-#define S100_WRONG_BUFFERS 0x01 /* memory or ports of a wrong length */
-#define S100_SENSELESS 0x02     /* a state that makes no sense */
-#define S100_MALFORMED 0x03     /* a field that the event can't have, or a number in a settle list that is no card's */
-#define S100_NAMES_NOBODY 0x04  /* a request by no card */
-#define S100_NOT_FITTED 0x05    /* a card is named that isn't fitted */
-#define S100_WRONG_PHASE 0x06   /* not in this phase */
-#define S100_NOT_ITS_TURN 0x07  /* not a contender, not the granted card, or not the master of this phase */
-#define S100_UNSETTLED 0x08     /* the priority lines aren't settled */
-#define S100_ODD_WORD 0x09      /* a word at an odd address */
-#define S100_ABSENT 0x0A        /* no memory at this address, or no such port */
-#define S100_BAD_PAGE 0x0B      /* a page code that setup doesn't know */
+#define S100_REFUSED_WRONG_BUFFERS 0x01 /* memory or ports of a wrong length */
+#define S100_REFUSED_SENSELESS 0x02     /* a state that makes no sense */
+#define S100_REFUSED_MALFORMED 0x03     /* no such kind, a field that the event can't have, a number in a settle list that is no card's */
+#define S100_REFUSED_NAMES_NOBODY 0x04  /* a request by no card */
+#define S100_REFUSED_NOT_FITTED 0x05    /* a card is named that isn't fitted */
+#define S100_REFUSED_WRONG_PHASE 0x06   /* not in this phase */
+#define S100_REFUSED_NOT_ITS_TURN 0x07  /* not a contender, not the granted card, or not the master of this phase */
+#define S100_REFUSED_UNSETTLED 0x08     /* the priority lines aren't settled, in settle not even after the whole list */
+#define S100_REFUSED_ODD_WORD 0x09      /* a word at an odd address */
+#define S100_REFUSED_ABSENT 0x0A        /* no memory at this address, or no such port */
+#define S100_REFUSED_BAD_PAGE 0x0B      /* a page code that setup doesn't know */
 
-/* Not the bus's answer but the face's: a state, pages or an answer's place of a wrong length. It comes before every other. */
+/* The library's own, which no refusal has and which comes before all of them: a state, pages or an answer's place of a wrong length. */
 #define S100_WRONG_LENGTH 0xFF
 
-/* The face's answer for a field of a buffer that isn't as long as a state, or of a page or card above 15. */
+/* The library's own for a field of a buffer that isn't as long as a state, or of a page or card above 15. */
 #define S100_NO_FIELD 0xFFFFFFFF
 
 /* ---- The calls */
 
-/* Puts a free bus with these cards and pages into the state. Refused as S100_BAD_PAGE, it puts a bus there that has no cards and no pages.
- * With a wrong length it writes nothing and answers S100_WRONG_LENGTH. */
+/* Puts a free bus with these cards and pages into the state. Refused as S100_REFUSED_BAD_PAGE, it puts a bus there that has no cards and no
+ * pages. With a wrong length it writes nothing and answers S100_WRONG_LENGTH. */
 uint8_t s100_setup(uint16_t fitted, const uint8_t *pages, size_t pages_length, uint8_t *state, size_t state_length);
 
 /* Judges an event and, if it is accepted, takes its step on the state, the memory and the ports; the answer's bytes are written in either
  * case, and its refusal is returned. A refused event changes no byte of the state, the memory or the ports. Where a length is wrong nothing
  * at all is written, not even the answer's bytes: then S100_WRONG_LENGTH is returned if it is the state's or the answer's, and else
- * S100_WRONG_BUFFERS. An address has 24 bits; a larger one is treated as any other where there is no memory. */
+ * S100_REFUSED_WRONG_BUFFERS. An address has 24 bits; a larger one is treated as any other where there is no memory. */
 uint8_t s100_step(uint8_t *state, size_t state_length, uint8_t kind, uint8_t speaker, uint32_t address, uint16_t datum, uint8_t *memory,
                   size_t memory_length, uint8_t *ports, size_t ports_length, uint8_t *answer, size_t answer_length);
 
@@ -138,15 +147,27 @@ uint8_t s100_step(uint8_t *state, size_t state_length, uint8_t kind, uint8_t spe
  * answer is S100_WRONG_LENGTH. */
 uint8_t s100_settle(uint8_t *state, size_t state_length, const uint8_t *cards, size_t cards_length, size_t *looks);
 
-/* The fields of a state, whether it makes sense or not; S100_NO_FIELD where there is none. */
+/* Fields can be read of any state, also of one that makes no sense; where there is no such field it is S100_NO_FIELD. */
+
+/* The set of fitted cards. */
 uint32_t s100_fitted(const uint8_t *state, size_t state_length);
+
+/* The code of a page. */
 uint32_t s100_page(const uint8_t *state, size_t state_length, uint8_t page);
+
+/* The phase. */
 uint32_t s100_phase(const uint8_t *state, size_t state_length);
+
+/* The set of contenders. */
 uint32_t s100_contenders(const uint8_t *state, size_t state_length);
+
+/* A card's level on the priority lines. */
 uint32_t s100_driven(const uint8_t *state, size_t state_length, uint8_t card);
+
+/* The granted card, or S100_NOBODY. */
 uint32_t s100_granted(const uint8_t *state, size_t state_length);
 
-/* What the priority lines of a state show, or S100_NO_FIELD. */
+/* What the contenders' levels show together on the priority lines; above 15 only if the state makes no sense. */
 uint32_t s100_lines(const uint8_t *state, size_t state_length);
 
 /* Whether a state makes sense; a buffer of another length doesn't. */
