@@ -9,15 +9,18 @@ use Rattle.cards.specs.Cards.{someCard, isWithin}
 use Rattle.bus.specs.Sense.{drivingFits, makesSense}
 use Rattle.bus.specs.Steps.{afterLooksOf}
 use Rattle.bus.specs.Settle.{settledAfter, leadingLooks, neverSettles, settleRefusal, settleOf}
+use Rattle.judgement.specs.Judge.{refusalOf}
+use Rattle.events.specs.Step.{answerTo}
 use Rattle.s100_c.specs.Layout.{stateBytes, busIn, answerBytes, answerIn}
-use Rattle.s100_c.specs.Examples.{BytesInPlace, FieldsInPlace, SetupCalls, SettleCalls}
+use Rattle.s100_c.specs.Calls.{stepAnswers, stepLeaves}
+use Rattle.s100_c.specs.Examples.{BytesInPlace, FieldsInPlace, SetupCalls, StepCalls, SettleCalls}
 
 pub bytes-in-place : BytesInPlace
 unfolding busIn stateBytes answerBytes answerIn
 bytes-in-place = record { read = refl; put = refl; answerPut = refl; answerRead = refl }
 
 pub fields-in-place : FieldsInPlace
-unfolding busIn
+unfolding busIn orBelow shown makesSense everyListed allBelow
 fields-in-place = record {
   fitted = refl;
   phase = refl;
@@ -29,6 +32,10 @@ fields-in-place = record {
   noSuchCard = refl;
   tooLong = refl;
   empty = refl;
+  lines = refl;
+  noLines = refl;
+  senseless = refl;
+  noSense = refl;
 }
 
 pub setup-calls : SetupCalls
@@ -42,6 +49,17 @@ setup-calls = record {
   fifteenLeaves = refl;
   short = refl;
   shortLeaves = refl;
+}
+
+pub step-calls : StepCalls
+unfolding stepAnswers stepLeaves answerTo refusalOf firstOf
+step-calls = record {
+  noMemoryAnswers = refl;
+  noMemoryLeaves = refl;
+  shortAnswerAnswers = refl;
+  shortAnswerLeaves = refl;
+  shortStateAnswers = refl;
+  shortStateLeaves = refl;
 }
 
 pub settle-calls : SettleCalls

@@ -1,5 +1,6 @@
 -- What a call answers and leaves, by the lengths that were asked for.
 use mathlib.Core.Path.{_≡_, refl, sym, ap, _∙_}
+use mathlib.Core.Logic.{inl}
 use mathlib.Core.Bool.{Bool, true, false, cond, _&&_, and-eq-true-iff}
 use mathlib.Core.List.{List}
 use Prim.Native.Nat.{ℕ, _+_, _<_}
@@ -7,15 +8,21 @@ use lib.Dec.{eqb, ltb}
 use lib.ListN.{length, getD, drop}
 use lib.Seq.{getD-take, getD-drop}
 use borrow.Author.Tests.{eqb-true, ltb-true, eq-eqb, ne-eqb}
+use Rattle.words.specs.First.{firstOf}
 use Rattle.words.proofs.TestLaws.{then-pick, else-pick}
+use Rattle.bus.specs.Refusal as Refusal
 use Rattle.bus.specs.Sense.{makesSense}
 use Rattle.bus.specs.declared.state.Bus.{Bus}
+use Rattle.judgement.specs.Refusals.{hasWrongBuffers}
+use Rattle.judgement.specs.Judge.{refusalOf}
 use Rattle.judgement.specs.declared.event.Event.{Event}
-use Rattle.events.specs.Machine.{machine}
-use Rattle.events.specs.Step.{after, answerTo, stepped}
+use Rattle.events.specs.Machine.{Machine, machine}
+use Rattle.events.specs.Step.{refusalIn, after, answerTo, stepped}
+use Rattle.events.specs.declared.answers.Answer.{Answer}
 use Rattle.events.specs.declared.steps.Stepped.{Stepped}
+use Rattle.events.proofs.Refused.{refused-answers}
 use Rattle.s100_c.specs.Layout.{sixteenAt, stateSize, isState, stateBytes, busIn, answerSize, isAnswer, answerBytes}
-use Rattle.s100_c.specs.Calls.{setupFits, Lent, lent, machineIn, placesFit, written, byLengths, noField, isSensible}
+use Rattle.s100_c.specs.Calls.{wrongLength, setupFits, Lent, lent, machineIn, placesFit, stepFits, stepAnswers, written, stepLeaves, noField, isSensible}
 
 -- ---- Step
 
@@ -24,17 +31,40 @@ places-fit given fits =
     let both = and-eq-true-iff (isState (given .state)) (isAnswer (given .answer)) .0 fits in
     (eqb-true (length (given .state)) stateSize (both .0), eqb-true (length (given .answer)) answerSize (both .1))
 
-pub all-fit : {A : Type 0} (given : Lent) (misplaced misfit fits : A) {x : A} → placesFit given ≡ true
-    → (eqb (length (given .memory)) 0x10000 && eqb (length (given .ports)) 0x100) ≡ true → x ≡ fits → x ≡ byLengths given misplaced misfit fits
-all-fit given misplaced misfit fits places buffers e = rw (places, buffers) e
+pub all-fit : (given : Lent) → placesFit given ≡ true → hasWrongBuffers (given .memory) (given .ports) ≡ false → stepFits given ≡ true
+all-fit given places fits = rw (places, fits) refl
 
-pub buffers-misfit : {A : Type 0} (given : Lent) (misplaced : A) {misfit : A} (fits : A) → placesFit given ≡ true
-    → (eqb (length (given .memory)) 0x10000 && eqb (length (given .ports)) 0x100) ≡ false → misfit ≡ byLengths given misplaced misfit fits
-buffers-misfit given misplaced fits places buffers = rw (places, buffers) refl
+pub buffers-misfit : (given : Lent) → placesFit given ≡ true → hasWrongBuffers (given .memory) (given .ports) ≡ true → stepFits given ≡ false
+buffers-misfit given places misfit = rw (places, misfit) refl
 
-pub places-misfit : {A : Type 0} (given : Lent) {misplaced : A} (misfit fits : A) → placesFit given ≡ false
-    → misplaced ≡ byLengths given misplaced misfit fits
-places-misfit given misfit fits places = rw places refl
+pub places-misfit : (given : Lent) → placesFit given ≡ false → stepFits given ≡ false
+places-misfit given misplaced = rw misplaced refl
+
+-- what is answered and left, by these
+pub placed-answers : (given : Lent) (event : Event) {r : ℕ} → placesFit given ≡ true → r ≡ answerTo (machineIn given) event .refusal → r ≡ stepAnswers given event
+unfolding stepAnswers
+placed-answers given event places e = then-pick wrongLength places e
+
+pub misplaced-answers : (given : Lent) (event : Event) → placesFit given ≡ false → wrongLength ≡ stepAnswers given event
+unfolding stepAnswers
+misplaced-answers given event misplaced = else-pick _ misplaced refl
+
+pub fitting-leaves : (given : Lent) (event : Event) {left : Lent} → stepFits given ≡ true → left ≡ written given event → left ≡ stepLeaves given event
+unfolding stepLeaves
+fitting-leaves given event fits e = then-pick given fits e
+
+pub misfitting-leaves : (given : Lent) (event : Event) → stepFits given ≡ false → given ≡ stepLeaves given event
+unfolding stepLeaves
+misfitting-leaves given event misfit = else-pick _ misfit refl
+
+-- memory or ports of a wrong length are refused first
+pub refused-first : (m : Machine) (event : Event) → hasWrongBuffers (m .memory) (m .ports) ≡ true → refusalIn m event ≡ Refusal.wrongBuffers
+unfolding refusalOf firstOf
+refused-first m event misfit = rw misfit refl
+
+pub first-answer : (m : Machine) (event : Event) → hasWrongBuffers (m .memory) (m .ports) ≡ true → Refusal.wrongBuffers ≡ answerTo m event .refusal
+first-answer m event misfit =
+    sym (ap (λ (a : Answer). a .refusal) (refused-answers m event Refusal.wrongBuffers (refused-first m event misfit) .0 (inl refl)))
 
 -- the bus decoded, its step taken, and state and answer encoded
 pub step-written : (given : Lent) (event : Event) (bus : Bus) (s : Stepped) (state memory ports answer : List ℕ)

@@ -1,7 +1,7 @@
 -- Wrong lengths write nothing; else a call is the model's, a run of calls is a run of the model, and a refused call keeps every byte.
 use mathlib.Core.Path.{_≡_, refl, sym, ap, subst, _∙_}
-use mathlib.Core.Logic.{inl, ⊎-elim}
-use mathlib.Core.Bool.{Bool, true, false, not, cond, true≢false}
+use mathlib.Core.Logic.{⊎-elim}
+use mathlib.Core.Bool.{Bool, true, false, not, true≢false}
 use mathlib.Core.List.{List, [], _∷_}
 use Prim.Native.Nat.{ℕ}
 use native.Mathlib.Decide.{ℕ-discrete}
@@ -9,7 +9,7 @@ use native.Mathlib.Omega.{arith}
 use lib.ListN.{length}
 use borrow.Author.Tests.{eqb-true, eq-eqb}
 use Rattle.words.specs.First.{firstOf}
-use Rattle.words.proofs.TestLaws.{true-or-false, then-pick, else-pick}
+use Rattle.words.proofs.TestLaws.{true-or-false, then-pick}
 use Rattle.bus.specs.Refusal as Refusal
 use Rattle.bus.specs.Sense.{makesSense}
 use Rattle.bus.specs.Setup.{setupOf}
@@ -21,19 +21,30 @@ use Rattle.bus.proofs.SetUp.{setup-makes-sense}
 use Rattle.bus.proofs.Kept.{sense-kept}
 use Rattle.bus.proofs.Settled.{settle-refused-keeps}
 use Rattle.judgement.specs.Refusals.{hasWrongBuffers}
-use Rattle.judgement.specs.Judge.{refusalOf}
 use Rattle.judgement.specs.declared.event.Event.{Event}
 use Rattle.judgement.proofs.Passed.{accepted-call}
 use Rattle.events.specs.Machine.{Machine, machine}
 use Rattle.events.specs.Step.{refusalIn, after, answerTo}
-use Rattle.events.specs.declared.answers.Answer.{Answer}
-use Rattle.events.proofs.Refused.{refused-keeps, refused-answers}
+use Rattle.events.proofs.Refused.{refused-keeps}
 use Rattle.events.proofs.Stays.{sense-kept-by-events}
 use Rattle.s100_c.specs.Layout.{stateSize, isState, stateBytes, busIn, isAnswer, answerIn}
-use Rattle.s100_c.specs.Calls.{Lent, lent, machineIn, placesFit, written, stepAnswers, stepLeaves, settleLeaves}
-use Rattle.s100_c.specs.Run.{Call, stateAfter, busAfter}
+use Rattle.s100_c.specs.Calls.{Lent, lent, machineIn, placesFit, written, stepLeaves, settleLeaves}
+use Rattle.runs.specs.Run.{busAfter, afterAll}
+use Rattle.s100_c.specs.Run.{Placed, stateAfter, bytesAfter, taken}
 use Rattle.s100_c.specs.Promises.{Whole, SetupMisfits, StepMisplaced, StepMisfits, SettleMisfits, SetupIsTheSetup, StepIsTheStep, AnswerIsTheAnswer, SettleIsTheSettle, RunIsTheRun, StepRefusedKeeps, SettleRefusedKeepsBytes}
-use Rattle.s100_c.proofs.CallLaws.{setup-fits, places-fit}
+use Rattle.s100_c.proofs.CallLaws.{
+  setup-fits,
+  places-fit,
+  all-fit,
+  buffers-misfit,
+  places-misfit,
+  placed-answers,
+  misplaced-answers,
+  fitting-leaves,
+  misfitting-leaves,
+  refused-first,
+  first-answer,
+}
 use Rattle.s100_c.proofs.ReadBack.{state-reads-back, sensible-reads-back, bytes-whole, bytes-read-back, answer-reads-back}
 
 -- ---- Wrong lengths
@@ -42,12 +53,16 @@ pub setup-misfits : SetupMisfits
 setup-misfits fitted pages state misfit = rw misfit (refl, refl)
 
 pub step-misplaced : StepMisplaced
-unfolding stepAnswers stepLeaves
-step-misplaced given event misplaced = rw misplaced (refl, refl)
+step-misplaced given event misplaced = (
+  sym (misplaced-answers given event misplaced),
+  sym (misfitting-leaves given event (places-misfit given misplaced)),
+)
 
 pub step-misfits : StepMisfits
-unfolding stepAnswers stepLeaves
-step-misfits given event places misfit = rw (places, misfit) (refl, refl)
+step-misfits given event places misfit = (
+  sym (placed-answers given event places (first-answer (machineIn given) event misfit)),
+  sym (misfitting-leaves given event (buffers-misfit given places misfit)),
+)
 
 pub settle-misfits : SettleMisfits
 settle-misfits state cards looks misfit = rw misfit (refl, (refl, refl))
@@ -88,41 +103,31 @@ setup-is-the-setup fitted pages state fits =
     let back = sensible-reads-back (setupOf fitted pages .bus) (setup-makes-sense fitted pages (setup-fits pages state fits .0)) .1 in
     rw fits (refl, back)
 
--- memory or ports of a wrong length are refused first
-refused-first : (m : Machine) (event : Event) → hasWrongBuffers (m .memory) (m .ports) ≡ true → refusalIn m event ≡ Refusal.wrongBuffers
-unfolding refusalOf firstOf
-refused-first m event misfit = rw misfit refl
-
 places-whole : (given : Lent) → placesFit given ≡ true → Whole (busIn (given .state))
 places-whole given places = bytes-whole (given .state) (places-fit given places .0)
 
 -- with every length right
-step-fits : (given : Lent) (event : Event) → placesFit given ≡ true → hasWrongBuffers (given .memory) (given .ports) ≡ false
-    → (stepAnswers given event ≡ answerTo (machineIn given) event .refusal) × (stepLeaves given event ≡ written given event)
-unfolding stepAnswers stepLeaves
-step-fits given event places fits = rw (places, fits) (refl, refl)
+step-leaves : (given : Lent) (event : Event) → placesFit given ≡ true → hasWrongBuffers (given .memory) (given .ports) ≡ false
+    → stepLeaves given event ≡ written given event
+step-leaves given event places fits = sym (fitting-leaves given event (all-fit given places fits) refl)
 
 pub step-is-the-step : StepIsTheStep
-step-is-the-step given event places =
-    ⊎-elim
-    (λ misfit.
-    let first = refused-first (machineIn given) event misfit in
-    let none = step-misfits given event places misfit in (
-      none .0 ∙ sym (ap (λ (a : Answer). a .refusal) (refused-answers (machineIn given) event Refusal.wrongBuffers first .0 (inl refl))),
-      ap machineIn (none .1) ∙ sym (refused-keeps (machineIn given) event (λ ok. omega (arith, ok, first))),
-    ))
-    (λ fits.
-    let m = machineIn given in
-    let done = step-fits given event places fits in (
-      done .0,
-      ap machineIn (done .1)
-          ∙ ap (λ (b : Bus). machine b (after m event .memory) (after m event .ports)) (state-reads-back (after m event .bus) (after-whole m event (places-whole given places)) .1),
-    ))
-    (true-or-false (hasWrongBuffers (given .memory) (given .ports)))
+step-is-the-step given event places = (
+  sym (placed-answers given event places refl),
+  ⊎-elim
+      (λ misfit.
+      let first = refused-first (machineIn given) event misfit in
+      ap machineIn (step-misfits given event places misfit .1) ∙ sym (refused-keeps (machineIn given) event (λ ok. omega (arith, ok, first))))
+      (λ fits.
+      let m = machineIn given in
+      ap machineIn (step-leaves given event places fits)
+      ∙ ap (λ (b : Bus). machine b (after m event .memory) (after m event .ports)) (state-reads-back (after m event .bus) (after-whole m event (places-whole given places)) .1))
+      (true-or-false (hasWrongBuffers (given .memory) (given .ports))),
+)
 
 pub answer-is-the-answer : AnswerIsTheAnswer
 answer-is-the-answer given event places fits =
-    ap (λ (l : Lent). answerIn (l .answer)) (step-fits given event places fits .1) ∙ answer-reads-back (answerTo (machineIn given) event) .1
+    ap (λ (l : Lent). answerIn (l .answer)) (step-leaves given event places fits) ∙ answer-reads-back (answerTo (machineIn given) event) .1
 
 pub settle-is-the-settle : SettleIsTheSettle
 settle-is-the-settle state cards looks fits =
@@ -136,36 +141,38 @@ step-state given event places =
     ⊎-elim
     (λ misfit. ap (λ (l : Lent). isState (l .state)) (step-misfits given event places misfit .1) ∙ eq-eqb _ stateSize (places-fit given places .0))
     (λ fits.
-    ap (λ (l : Lent). isState (l .state)) (step-fits given event places fits .1)
+    ap (λ (l : Lent). isState (l .state)) (step-leaves given event places fits)
     ∙ eq-eqb _ stateSize (state-reads-back (after (machineIn given) event .bus) (after-whole (machineIn given) event (places-whole given places)) .0))
     (true-or-false (hasWrongBuffers (given .memory) (given .ports)))
 
--- one call of a run
-one-call : (c : Call) (state : List ℕ) → isState state ≡ true
-    → (isState (stateAfter state c) ≡ true)
-    × (busIn (stateAfter state c) ≡ cond (isAnswer (c .answer)) (after (machine (busIn state) (c .memory) (c .ports)) (c .event) .bus) (busIn state))
-one-call c state fits =
-    ⊎-elim
-    (λ place.
-    let places : placesFit given ≡ true = rw fits place in (
-      step-state given (c .event) places,
-      then-pick (busIn state) place (ap (λ (m : Machine). m .bus) (step-is-the-step given (c .event) places .1)),
-    ))
-    (λ none.
+-- a call of a run that comes to the bus, and one that doesn't
+taken-call : (c : Placed) (state : List ℕ) → isState state ≡ true → isAnswer (c .answer) ≡ true
+    → (isState (stateAfter state c) ≡ true) × (busIn (stateAfter state c) ≡ busAfter (busIn state) (c .call))
+taken-call c state fits place =
+    let given = lent state (c .call .memory) (c .call .ports) (c .answer) in
+    let places : placesFit given ≡ true = rw fits place in
+    (step-state given (c .call .event) places, ap (λ (m : Machine). m .bus) (step-is-the-step given (c .call .event) places .1))
+
+lost-call : (c : Placed) (state : List ℕ) → isState state ≡ true → isAnswer (c .answer) ≡ false → stateAfter state c ≡ state
+lost-call c state fits none =
+    let given = lent state (c .call .memory) (c .call .ports) (c .answer) in
     let places : placesFit given ≡ false = rw fits none in
-    let kept = ap (λ (l : Lent). l .state) (step-misplaced given (c .event) places .1) in
-    (ap isState kept ∙ fits, else-pick _ none (ap busIn kept)))
-    (true-or-false (isAnswer (c .answer)))
-  where
-    given : Lent
-    given = lent state (c .memory) (c .ports) (c .answer)
+    ap (λ (l : Lent). l .state) (step-misplaced given (c .call .event) places .1)
 
 pub run-is-the-run : RunIsTheRun
+unfolding bytesAfter taken afterAll
 run-is-the-run [] state fits = (fits, refl)
 run-is-the-run (c ∷ calls) state fits =
-    let next = one-call c state fits in
+    ⊎-elim
+    (λ place.
+    let next = taken-call c state fits place in
     let later = run-is-the-run calls (stateAfter state c) (next .0) in
-    (later .0, later .1 ∙ ap (λ (b : Bus). busAfter b calls) (next .1))
+    (later .0, rw place (later .1 ∙ ap (λ (b : Bus). afterAll b (taken calls)) (next .1))))
+    (λ none.
+    let same = lost-call c state fits none in
+    let later = run-is-the-run calls (stateAfter state c) (ap isState same ∙ fits) in
+    (later .0, rw none (later .1 ∙ ap (λ (l : List ℕ). afterAll (busIn l) (taken calls)) same)))
+    (true-or-false (isAnswer (c .answer)))
 
 -- ---- Refused
 
@@ -187,14 +194,14 @@ step-refused-keeps given event bytes refused = ⊎-elim inPlace (λ misplaced. s
         ⊎-elim
         (λ misfit. same (step-misfits given event places misfit .1))
         (λ fits.
-        let done = step-fits given event places fits in
-        let kept = refused-keeps (machineIn given) event (λ ok. refused (done .0 ∙ accepted-answers (machineIn given) event ok)) in (
-          ap (λ (l : Lent). l .state) (done .1)
+        let done = step-leaves given event places fits in
+        let kept = refused-keeps (machineIn given) event (λ ok. refused (sym (placed-answers given event places refl) ∙ accepted-answers (machineIn given) event ok)) in (
+          ap (λ (l : Lent). l .state) done
               ∙ ap (λ (m : Machine). stateBytes (m .bus)) kept
               ∙ bytes-read-back (given .state) (places-fit given places .0) bytes .1,
           (
-            ap (λ (l : Lent). l .memory) (done .1) ∙ ap (λ (m : Machine). m .memory) kept,
-            ap (λ (l : Lent). l .ports) (done .1) ∙ ap (λ (m : Machine). m .ports) kept,
+            ap (λ (l : Lent). l .memory) done ∙ ap (λ (m : Machine). m .memory) kept,
+            ap (λ (l : Lent). l .ports) done ∙ ap (λ (m : Machine). m .ports) kept,
           ),
         ))
         (true-or-false (hasWrongBuffers (given .memory) (given .ports)))

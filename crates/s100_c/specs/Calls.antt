@@ -1,10 +1,9 @@
 -- What each call answers, and what it leaves in the buffers that it was lent. Where a length is wrong, nothing is written.
 use Prim.Native.Nat.{ℕ}
-use mathlib.Core.Bool.{Bool, cond, _&&_}
+use mathlib.Core.Bool.{Bool, cond, not, _&&_}
 use mathlib.Core.List.{List}
 use lib.Dec.{eqb, ltb}
 use lib.ListN.{length, getD}
-use Rattle.bus.specs.Refusal as Refusal
 use Rattle.bus.specs.Sense.{makesSense}
 use Rattle.bus.specs.Setup.{setupOf}
 use Rattle.bus.specs.Settle.{settleOf}
@@ -32,7 +31,7 @@ setupLeaves fitted pages state = cond (setupFits pages state) (stateBytes (setup
 
 -- ---- Step
 
--- what a call is lent
+-- what a step is lent
 pub record Lent : Type 0 where
   pub state : List ℕ
   pub memory : List ℕ
@@ -48,21 +47,21 @@ machineIn given = machine (busIn (given .state)) (given .memory) (given .ports)
 abbrev pub placesFit : Lent → Bool
 placesFit given = isState (given .state) && isAnswer (given .answer)
 
--- all that a step writes, from what it was lent
+abbrev pub stepFits : Lent → Bool
+stepFits given = placesFit given && not (hasWrongBuffers (given .memory) (given .ports))
+
+-- for memory and ports of wrong lengths the model's own answer has 01
+unfoldable pub stepAnswers : Lent → Event → ℕ
+stepAnswers given event = cond (placesFit given) (answerTo (machineIn given) event .refusal) wrongLength
+
+-- what a step writes where every length is right
 abbrev pub written : Lent → Event → Lent
 written given event =
     lent (stateBytes (after (machineIn given) event .bus)) (after (machineIn given) event .memory) (after (machineIn given) event .ports)
     (answerBytes (answerTo (machineIn given) event))
 
--- picked by the lengths: those of the face's own places come first, then memory's and ports'
-abbrev pub byLengths : {A : Type 0} → Lent → A → A → A → A
-byLengths given misplaced misfit fits = cond (placesFit given) (cond (hasWrongBuffers (given .memory) (given .ports)) misfit fits) misplaced
-
-unfoldable pub stepAnswers : Lent → Event → ℕ
-stepAnswers given event = byLengths given wrongLength Refusal.wrongBuffers (answerTo (machineIn given) event .refusal)
-
 unfoldable pub stepLeaves : Lent → Event → Lent
-stepLeaves given event = byLengths given given given (written given event)
+stepLeaves given event = cond (stepFits given) (written given event) given
 
 -- ---- Settle
 

@@ -1,11 +1,15 @@
 -- States, answers and calls written out, byte by byte.
 use Prim.Native.Nat.{ℕ}
 use mathlib.Core.Path.{_≡_}
+use mathlib.Core.Bool.{false}
 use mathlib.Core.List.{List, [], _∷_, _++_}
 use lib.ListN.{replicate}
 use Rattle.bus.specs.Refusal as Refusal
-use Rattle.bus.specs.State.{stateOf}
+use Rattle.bus.specs.State.{stateOf, linesOf}
 use Rattle.bus.specs.declared.state.Bus.{Bus}
+use Rattle.phases.specs.Kind as Kind
+use Rattle.judgement.specs.Table.{eventOf}
+use Rattle.judgement.specs.declared.event.Event.{Event}
 use Rattle.events.specs.declared.answers.Answer.{Answer}
 use Rattle.s100_c.specs.Layout.{stateBytes, busIn, answerBytes, answerIn}
 use Rattle.s100_c.specs.Calls.{
@@ -15,9 +19,14 @@ use Rattle.s100_c.specs.Calls.{
   settleAnswers,
   settleLeaves,
   settleCounts,
+  Lent,
+  lent,
+  stepAnswers,
+  stepLeaves,
   noField,
   fieldOf,
   entryOf,
+  isSensible,
 }
 
 -- ---- The layout: at every place the place's own number
@@ -64,6 +73,11 @@ pub record FieldsInPlace : Type 0 where
   pub noSuchCard : entryOf (λ bus. bus .driven) placed 16 ≡ noField
   pub tooLong : fieldOf (λ bus. bus .phase) (placed ++ 0 ∷ []) ≡ noField
   pub empty : entryOf (λ bus. bus .pages) [] 0 ≡ noField
+  -- cards 2, 4, 8, 9 and 12 contend here and drive 17h, 19h, 1Dh, 1Eh and 21h
+  pub lines : fieldOf linesOf placed ≡ 0x3F
+  pub noLines : fieldOf linesOf [] ≡ noField
+  pub senseless : isSensible placed ≡ false
+  pub noSense : isSensible [] ≡ false
 
 -- ---- Calls, on a buffer with other bytes in it
 
@@ -80,6 +94,29 @@ pub record SetupCalls : Type 0 where
   pub fifteenLeaves : setupLeaves 0x000A (replicate 15 1) used ≡ used
   pub short : setupAnswers 0x000A (replicate 16 1) (replicate 37 0x55) ≡ wrongLength
   pub shortLeaves : setupLeaves 0x000A (replicate 16 1) (replicate 37 0x55) ≡ replicate 37 0x55
+
+-- ---- A reset, accepted in any phase, with something wrong about what is lent
+
+abbrev pub resetting : Event
+resetting = eventOf Kind.reset 0 0 0
+
+-- no memory and no ports, with a place for the answer; the same with a place that is a byte short, and with a state that is
+abbrev pub noMemory : Lent
+noMemory = lent used [] [] (replicate 9 0x55)
+
+abbrev pub shortAnswer : Lent
+shortAnswer = lent used [] [] (replicate 8 0x55)
+
+abbrev pub shortState : Lent
+shortState = lent (replicate 37 0x55) [] [] (replicate 9 0x55)
+
+pub record StepCalls : Type 0 where
+  pub noMemoryAnswers : stepAnswers noMemory resetting ≡ Refusal.wrongBuffers
+  pub noMemoryLeaves : stepLeaves noMemory resetting ≡ noMemory
+  pub shortAnswerAnswers : stepAnswers shortAnswer resetting ≡ wrongLength
+  pub shortAnswerLeaves : stepLeaves shortAnswer resetting ≡ shortAnswer
+  pub shortStateAnswers : stepAnswers shortState resetting ≡ wrongLength
+  pub shortStateLeaves : stepLeaves shortState resetting ≡ shortState
 
 -- ---- Cards 4, 9 and 10 contend, nobody drives (M5, M6)
 

@@ -13,6 +13,7 @@ use Rattle.judgement.specs.Refusals.{hasWrongBuffers}
 use Rattle.judgement.specs.declared.event.Event.{Event}
 use Rattle.events.specs.Step.{after, answerTo}
 use Rattle.events.specs.declared.answers.Answer.{Answer}
+use Rattle.runs.specs.Run.{afterAll}
 use Rattle.s100_c.specs.Layout.{stateSize, isState, stateBytes, busIn, answerSize, answerBytes, answerIn}
 use Rattle.s100_c.specs.Calls.{
   wrongLength,
@@ -28,7 +29,7 @@ use Rattle.s100_c.specs.Calls.{
   settleLeaves,
   settleCounts,
 }
-use Rattle.s100_c.specs.Run.{Call, bytesAfter, busAfter}
+use Rattle.s100_c.specs.Run.{Placed, bytesAfter, taken}
 
 -- ---- The layout
 
@@ -100,12 +101,12 @@ SettleIsTheSettle =
     → (settleAnswers state cards ≡ settleOf (busIn state) cards .answer)
     × ((busIn (settleLeaves state cards) ≡ settleOf (busIn state) cards .bus) × (settleCounts state cards looks ≡ settleOf (busIn state) cards .looks))
 
--- ---- So is a run of calls.
+-- ---- So is a run of calls, and what `runs` promises of runs holds of it.
 
 abbrev pub RunIsTheRun : Type 0
 RunIsTheRun =
-    (calls : List Call) (state : List ℕ) → isState state ≡ true
-    → (isState (bytesAfter state calls) ≡ true) × (busIn (bytesAfter state calls) ≡ busAfter (busIn state) calls)
+    (calls : List Placed) (state : List ℕ) → isState state ≡ true
+    → (isState (bytesAfter state calls) ≡ true) × (busIn (bytesAfter state calls) ≡ afterAll (busIn state) (taken calls))
 
 -- ---- A refused call leaves every byte of state, memory and ports as it was.
 

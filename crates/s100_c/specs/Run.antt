@@ -1,28 +1,25 @@
--- A run through the C face: each call is given the bytes of the state that its predecessor left, and lent other buffers as it comes.
+-- A run through the C face: each call is given the bytes that its predecessor left of the state, and is lent memory, ports and a place for its
+-- answer of its own.
 use Prim.Native.Nat.{ℕ}
 use mathlib.Core.Bool.{cond}
 use mathlib.Core.List.{List, [], _∷_}
-use Rattle.bus.specs.declared.state.Bus.{Bus}
-use Rattle.judgement.specs.declared.event.Event.{Event}
-use Rattle.events.specs.Machine.{machine}
-use Rattle.events.specs.Step.{after}
+use Rattle.runs.specs.Run.{Call}
 use Rattle.s100_c.specs.Layout.{isAnswer}
 use Rattle.s100_c.specs.Calls.{lent, stepLeaves}
 
-pub record Call : Type 0 where
-  pub event : Event
-  pub memory : List ℕ
-  pub ports : List ℕ
+-- a call of the model, with the place for its answer
+pub record Placed : Type 0 where
+  pub call : Call
   pub answer : List ℕ
 
-abbrev pub stateAfter : List ℕ → Call → List ℕ
-stateAfter state c = stepLeaves (lent state (c .memory) (c .ports) (c .answer)) (c .event) .state
+abbrev pub stateAfter : List ℕ → Placed → List ℕ
+stateAfter state c = stepLeaves (lent state (c .call .memory) (c .call .ports) (c .answer)) (c .call .event) .state
 
-abbrev pub bytesAfter : List ℕ → List Call → List ℕ
+unfoldable pub bytesAfter : List ℕ → List Placed → List ℕ
 bytesAfter state [] = state
 bytesAfter state (c ∷ calls) = bytesAfter (stateAfter state c) calls
 
--- the same run of the states themselves: a call without a place for its answer does nothing
-abbrev pub busAfter : Bus → List Call → Bus
-busAfter bus [] = bus
-busAfter bus (c ∷ calls) = busAfter (cond (isAnswer (c .answer)) (after (machine bus (c .memory) (c .ports)) (c .event) .bus) bus) calls
+-- the calls that come to the bus: one without a place for its answer doesn't
+unfoldable pub taken : List Placed → List Call
+taken [] = []
+taken (c ∷ calls) = cond (isAnswer (c .answer)) (c .call ∷ taken calls) (taken calls)
