@@ -5,8 +5,11 @@ use crate::model;
 use crate::tally::Tally;
 use std::fmt::Write;
 
-/// Bytes behind each buffer of the right length: room to lend too much, and where a write past the end is seen.
-pub const MARGIN: usize = 64;
+/// How many known bytes stand in front of what is lent and behind it, for a write beyond either end to be seen.
+const MARGIN: usize = 64;
+
+/// The most bytes that a buffer can be lent beyond its right length.
+const EXCESS: usize = 0x1_0000;
 
 pub type State = [u8; STATE_SIZE];
 
@@ -28,59 +31,120 @@ pub struct Lengths {
 
 pub const RIGHT: Lengths = Lengths { state: STATE_SIZE, memory: MEMORY_SIZE, ports: PORTS_SIZE, answer: ANSWER_SIZE };
 
-/// What one of the two is lent. The list is a setup's pages or a settle's cards, which no call may change.
+/// Bytes to lend, between margins.
+#[derive(PartialEq)]
+pub struct Buffer {
+    all: Vec<u8>,
+    right: usize,
+}
+
+impl Buffer {
+    fn new(right: usize) -> Buffer {
+        let all = (0..MARGIN + right + EXCESS + MARGIN).map(|at| (at * 31 % 251) as u8).collect();
+        Buffer { all, right }
+    }
+
+    /// A list is lent as long as it is, whatever its length.
+    fn hold(&mut self, list: &[u8], margin: u8) {
+        self.all.clear();
+        self.all.resize(MARGIN, margin);
+        self.all.extend_from_slice(list);
+        self.all.resize(MARGIN + list.len() + MARGIN, margin);
+        self.right = list.len();
+    }
+
+    pub fn bytes(&self) -> &[u8] {
+        &self.all[MARGIN..MARGIN + self.right]
+    }
+
+    fn place(&mut self, at: usize, bytes: &[u8]) {
+        self.all[MARGIN + at..MARGIN + at + bytes.len()].copy_from_slice(bytes);
+    }
+
+    fn lend(&mut self, length: usize) -> &mut [u8] {
+        &mut self.all[MARGIN..MARGIN + length]
+    }
+
+    /// What is looked at after a call that was lent so many bytes: these, any others that are right, and the margins.
+    fn around(&self, length: usize) -> &[u8] {
+        &self.all[..MARGIN + length.max(self.right) + MARGIN]
+    }
+
+    fn fill_around(&mut self, length: usize, byte: u8) {
+        self.all[..MARGIN + length.max(self.right) + MARGIN].fill(byte);
+    }
+
+    fn shown(&self, length: usize) -> String {
+        let (front, lent) = self.around(length).split_at(MARGIN);
+        let (lent, behind) = lent.split_at(length);
+        format!("{} | {} | {}", hex(front), hex(lent), hex(behind))
+    }
+}
+
+/// What one of the two is lent. The list is a setup's pages or a settle's cards, which no call may change; of the three numbers the middle
+/// one is lent for settle's count.
 #[derive(PartialEq)]
 pub struct Side {
-    pub state: Vec<u8>,
-    pub memory: Vec<u8>,
-    pub ports: Vec<u8>,
-    pub answer: Vec<u8>,
-    pub list: Vec<u8>,
-    pub looks: usize,
+    state: Buffer,
+    pub memory: Buffer,
+    ports: Buffer,
+    pub answer: Buffer,
+    list: Buffer,
+    looks: [usize; 3],
 }
 
 impl Side {
     fn new() -> Side {
-        let strewn = |length: usize| (0..length + MARGIN).map(|at| (at * 31 % 251) as u8).collect();
-        let (state, memory, ports, answer) = (strewn(STATE_SIZE), strewn(MEMORY_SIZE), strewn(PORTS_SIZE), strewn(ANSWER_SIZE));
-        Side { state, memory, ports, answer, list: Vec::new(), looks: 0 }
+        let (state, memory, ports) = (Buffer::new(STATE_SIZE), Buffer::new(MEMORY_SIZE), Buffer::new(PORTS_SIZE));
+        Side { state, memory, ports, answer: Buffer::new(ANSWER_SIZE), list: Buffer::new(0), looks: [0; 3] }
+    }
+
+    pub fn looks(&self) -> usize {
+        self.looks[1]
     }
 
     /// Fills what the call may or may not write with bytes that it can't know, so that both a write too many and one too few show.
-    fn prepare(&mut self, call: &Call, garbage: u64) {
-        self.answer.fill(garbage as u8);
-        self.looks = garbage as usize;
-        self.list.clear();
+    fn prepare(&mut self, call: &Call, lent: Lengths, garbage: u64) {
+        self.answer.fill_around(lent.answer, garbage as u8);
+        self.looks = [garbage as usize; 3];
         match call {
-            Call::Setup { pages: list, .. } | Call::Settle { cards: list } => self.list.extend_from_slice(list),
-            Call::Step(_) | Call::Field(_) => {}
+            Call::Setup { pages: list, .. } | Call::Settle { cards: list } => self.list.hold(list, garbage as u8),
+            Call::Step(_) | Call::Field(_) => self.list.hold(&[], garbage as u8),
         }
     }
 
     fn through_face(&mut self, call: &Call, lent: Lengths) -> u32 {
-        let state = &mut self.state[..lent.state];
+        let state = self.state.lend(lent.state);
         match call {
-            Call::Setup { fitted, .. } => face::setup(*fitted, &self.list, state).into(),
+            Call::Setup { fitted, .. } => face::setup(*fitted, self.list.bytes(), state).into(),
             Call::Step(event) => {
-                let (memory, ports) = (&mut self.memory[..lent.memory], &mut self.ports[..lent.ports]);
-                face::step(state, *event, memory, ports, &mut self.answer[..lent.answer]).into()
+                let (memory, ports) = (self.memory.lend(lent.memory), self.ports.lend(lent.ports));
+                face::step(state, *event, memory, ports, self.answer.lend(lent.answer)).into()
             }
-            Call::Settle { .. } => face::settle(state, &self.list, &mut self.looks).into(),
+            Call::Settle { .. } => face::settle(state, self.list.bytes(), &mut self.looks[1]).into(),
             Call::Field(field) => face::field(*field, state),
         }
     }
 
     fn by_model(&mut self, call: &Call, lent: Lengths) -> u32 {
-        let state = &mut self.state[..lent.state];
+        let state = self.state.lend(lent.state);
         match call {
-            Call::Setup { fitted, .. } => model::setup(*fitted, &self.list, state).into(),
+            Call::Setup { fitted, .. } => model::setup(*fitted, self.list.bytes(), state).into(),
             Call::Step(event) => {
-                let (memory, ports) = (&mut self.memory[..lent.memory], &mut self.ports[..lent.ports]);
-                model::step(state, *event, memory, ports, &mut self.answer[..lent.answer]).into()
+                let (memory, ports) = (self.memory.lend(lent.memory), self.ports.lend(lent.ports));
+                model::step(state, *event, memory, ports, self.answer.lend(lent.answer)).into()
             }
-            Call::Settle { .. } => model::settle(state, &self.list, &mut self.looks).into(),
+            Call::Settle { .. } => model::settle(state, self.list.bytes(), &mut self.looks[1]).into(),
             Call::Field(field) => model::field(*field, state),
         }
+    }
+
+    fn agrees_but_for_memory(&self, other: &Side, lent: Lengths) -> bool {
+        self.state.around(lent.state) == other.state.around(lent.state)
+            && self.ports.around(lent.ports) == other.ports.around(lent.ports)
+            && self.answer.around(lent.answer) == other.answer.around(lent.answer)
+            && self.list == other.list
+            && self.looks == other.looks
     }
 }
 
@@ -106,17 +170,17 @@ impl Both {
     }
 
     pub fn state(&self) -> State {
-        self.library.state[..STATE_SIZE].try_into().expect("a whole state")
+        self.library.state.bytes().try_into().expect("a whole state")
     }
 
     pub fn place(&mut self, state: &State) {
-        self.library.state[..STATE_SIZE].copy_from_slice(state);
-        self.model.state[..STATE_SIZE].copy_from_slice(state);
+        self.library.state.place(0, state);
+        self.model.state.place(0, state);
     }
 
     pub fn place_memory(&mut self, at: usize, bytes: &[u8]) {
-        self.library.memory[at..at + bytes.len()].copy_from_slice(bytes);
-        self.model.memory[at..at + bytes.len()].copy_from_slice(bytes);
+        self.library.memory.place(at, bytes);
+        self.model.memory.place(at, bytes);
     }
 
     /// Makes the call of both and returns the number that both returned; the program ends at a difference.
@@ -124,16 +188,30 @@ impl Both {
         self.calls += 1;
         let state = self.state();
         let garbage = self.calls.wrapping_mul(0x9E37_79B9_7F4A_7C15) >> 7;
-        self.library.prepare(&call, garbage);
-        self.model.prepare(&call, garbage);
+        self.library.prepare(&call, lent, garbage);
+        self.model.prepare(&call, lent, garbage);
         let found = self.library.through_face(&call, lent);
         let expected = self.model.by_model(&call, lent);
-        self.tally.note(&call, state[PHASE_AT], found);
+        self.tally.note(&call, lent, state[PHASE_AT], found);
+        let agrees = found == expected && self.library.agrees_but_for_memory(&self.model, lent) && self.memory_agrees(&call, lent);
         self.last = Some(Made { call, lent, state });
-        if found != expected || self.library != self.model {
-            self.fail("the library and the model differ", &self.difference(found, expected));
+        if !agrees {
+            self.fail("the library and the model differ", &self.difference(found, expected, lent));
         }
         found
+    }
+
+    /// Looks are most of the calls, and the memory most of the bytes: after looks it is compared now and then, after all else always.
+    fn memory_agrees(&self, call: &Call, lent: Lengths) -> bool {
+        let left_out = matches!(call, Call::Step(Event { kind: 0x02, .. })) && self.calls % 8 != 0;
+        left_out || self.library.memory.around(lent.memory) == self.model.memory.around(lent.memory)
+    }
+
+    /// Compares once more, with all that was ever lent.
+    pub fn end(&self) {
+        if self.library != self.model {
+            self.fail("the library wrote where no call of late could write", "");
+        }
     }
 
     pub fn step(&mut self, event: Event) -> u32 {
@@ -151,7 +229,7 @@ impl Both {
     /// What a rule asks of the call just made, beyond that the two agree.
     pub fn expect(&self, holds: bool, rule: &str) {
         if !holds {
-            let Side { state, answer, looks, .. } = &self.library;
+            let (state, answer, looks) = (self.library.state.bytes(), self.library.answer.bytes(), self.library.looks());
             self.fail(rule, &format!("that isn't so of\nstate: {}\nanswer: {}\nlooks: {looks}", hex(state), hex(answer)));
         }
     }
@@ -165,18 +243,23 @@ impl Both {
         std::process::exit(1);
     }
 
-    fn difference(&self, found: u32, expected: u32) -> String {
+    fn difference(&self, found: u32, expected: u32, lent: Lengths) -> String {
         let mut text = format!("returned: library {found:02X}, model {expected:02X}\n");
         let (ours, theirs) = (&self.library, &self.model);
-        let pairs = [(&ours.state, &theirs.state), (&ours.answer, &theirs.answer), (&ours.list, &theirs.list)];
-        for (name, (library, model)) in ["state", "answer", "list"].iter().zip(pairs) {
-            _ = writeln!(text, "{name}, with what lies behind it:\n  library {}\n  model   {}", hex(library), hex(model));
+        let listed = theirs.list.right;
+        for (name, library, model, length) in [
+            ("state", &ours.state, &theirs.state, lent.state),
+            ("answer", &ours.answer, &theirs.answer, lent.answer),
+            ("list", &ours.list, &theirs.list, listed),
+        ] {
+            _ = writeln!(text, "{name}, between its margins:\n  library {}\n  model   {}", library.shown(length), model.shown(length));
         }
-        _ = writeln!(text, "looks: library {}, model {}", ours.looks, theirs.looks);
+        _ = writeln!(text, "looks, between others: library {:X?}, model {:X?}", ours.looks, theirs.looks);
         for (name, library, model) in [("memory", &ours.memory, &theirs.memory), ("ports", &ours.ports, &theirs.ports)] {
-            let differing: Vec<usize> = (0..library.len()).filter(|at| library[*at] != model[*at]).collect();
+            let differing: Vec<usize> = (0..library.all.len()).filter(|at| library.all[*at] != model.all[*at]).collect();
             for at in differing.iter().take(4) {
-                _ = writeln!(text, "{name} at {at:X}: library {:02X}, model {:02X}", library[*at], model[*at]);
+                let place = *at as i64 - MARGIN as i64;
+                _ = writeln!(text, "{name} at {place}: library {:02X}, model {:02X}", library.all[*at], model.all[*at]);
             }
             _ = writeln!(text, "{name}: {} bytes differ", differing.len());
         }
@@ -195,7 +278,7 @@ fn described(call: &Call) -> String {
     }
 }
 
-/// Only the longest of settle lists are cut short.
+/// Only the longest of lists and buffers are cut short.
 fn hex(bytes: &[u8]) -> String {
     let shown = bytes.iter().take(1000).map(|byte| format!("{byte:02X}")).collect();
     if bytes.len() > 1000 {

@@ -1,6 +1,6 @@
 //! Draws from a seeded generator: states that make sense and states that don't, events, settle lists and lengths.
 
-use crate::both::{Lengths, State, MARGIN, RIGHT};
+use crate::both::{Lengths, State, RIGHT};
 use crate::face::{Event, Field, NOBODY, PAGES_SIZE, PERMANENT_MASTER, STATE_SIZE};
 use crate::face::{CONTENDERS_AT, DRIVEN_AT, FITTED_AT, GRANTED_AT, PAGES_AT, PHASE_AT};
 
@@ -55,7 +55,7 @@ fn put_set(state: &mut State, at: usize, set: u16) {
     state[at..at + 2].copy_from_slice(&set.to_be_bytes());
 }
 
-/// A set of all sizes alike: few cards as often as many.
+/// Small and large sets too: an even draw would mostly have about eight cards.
 fn any_set(chance: &mut Chance) -> u16 {
     let (one, other) = (chance.next() as u16, chance.next() as u16);
     match chance.below(6) {
@@ -223,8 +223,8 @@ pub const SENSELESS: [(&str, Draw); 11] = [
         with_byte(sensible(chance), at, chance.pick(&[3, 255, any]))
     }),
     ("a phase above 5", |chance| {
-        let (phase, any) = (chance.pick(&[0, 2, 3, 4, 5]), chance.between(6, 255));
-        with_byte(sensible_in(chance, phase), PHASE_AT, chance.pick(&[6, 255, any]))
+        let any = chance.between(6, 255);
+        with_byte(sensible_in(chance, 0), PHASE_AT, chance.pick(&[6, 255, any]))
     }),
     ("a contender that isn't fitted", with_unfitted_contender),
     ("arbitration without a contender", |chance| with_byte(sensible_in(chance, 0), PHASE_AT, 1)),
@@ -387,7 +387,8 @@ pub fn rounds(chance: &mut Chance, contenders: u16, number: usize) -> Vec<u8> {
     cards
 }
 
-/// A settle list: of every sort, from those that settle to those with numbers that don't belong there, at the end as well.
+/// A settle list: of every sort, from those that settle to those with numbers that don't belong there, at the end as well. Among these the
+/// idle cards come most often, since they are refused in arbitration only.
 pub fn list(chance: &mut Chance, state: &State) -> Vec<u8> {
     let contenders = set_at(state, CONTENDERS_AT);
     let many = chance.pick(&[0, 1, 1, 2, 3, 4, 5, 40]);
@@ -402,7 +403,7 @@ pub fn list(chance: &mut Chance, state: &State) -> Vec<u8> {
     let stray = match chance.below(16) {
         0 => Some(chance.pick(&[16, 17, 128, 255])),
         1 => card_from(chance, !set_at(state, FITTED_AT)),
-        2 => card_from(chance, set_at(state, FITTED_AT) & !contenders),
+        2..=6 => card_from(chance, set_at(state, FITTED_AT) & !contenders),
         _ => None,
     };
     if let Some(card) = stray {
@@ -422,24 +423,33 @@ pub fn page_codes(chance: &mut Chance) -> Vec<u8> {
     codes
 }
 
+/// Every field there is, those of a page or a card with this number.
+pub fn fields(number: u8) -> [Field; 8] {
+    use Field::*;
+    [Fitted, Page(number), Phase, Contenders, Driven(number), Granted, Lines, MakesSense]
+}
+
 pub fn field(chance: &mut Chance) -> Field {
     let any = chance.next() as u8;
     let number = chance.pick(&[0, 15, 16, 255, any, any % 16, any % 16, any % 16]);
-    let fields = [Field::Fitted, Field::Page(number), Field::Phase, Field::Contenders, Field::Driven(number), Field::Granted];
-    match chance.below(8) {
-        6 => Field::Lines,
-        7 => Field::MakesSense,
-        at => fields[at],
-    }
+    chance.pick(&fields(number))
+}
+
+/// Too many bytes by so much that the low byte, and with the second the low sixteen bits, of the length are right.
+const FAR_TOO_MANY: [usize; 2] = [0x100, 0x1_0000];
+
+pub fn wrong_lengths(right: usize) -> [usize; 5] {
+    [0, right - 1, right + 1, right + FAR_TOO_MANY[0], right + FAR_TOO_MANY[1]]
 }
 
 fn wrong_length(chance: &mut Chance, right: usize) -> usize {
     match chance.below(6) {
+        _ if chance.one_in(30) => right + chance.pick(&FAR_TOO_MANY),
         0 => 0,
         1 | 2 => right - 1,
         3 => right + 1,
         4 => chance.below(right),
-        _ => right + chance.between(1, MARGIN as u8) as usize,
+        _ => right + usize::from(chance.between(1, 64)),
     }
 }
 

@@ -1,4 +1,4 @@
-//! A model of the bus written from the rule document 01 alone, for the comparison to hold the proved library against.
+//! A model of the bus for the comparison to hold the proved library against: its rules are those of 01, its bytes those of include/s100.h.
 //!
 //! Bytes that make no sense never become a `Bus`, so that its events needn't think of them. The functions at the end take what the C face
 //! takes: any bytes, of any length.
@@ -60,14 +60,14 @@ impl Page {
 }
 
 #[derive(Clone)]
-struct Contender {
-    number: u8,
-    drives: u8,
+pub struct Contender {
+    pub number: u8,
+    pub drives: u8,
 }
 
 impl Contender {
     /// What it drives after a look at these lines: 01, "Looking and settling".
-    fn would_drive(&self, lines: u8) -> u8 {
+    pub fn would_drive(&self, lines: u8) -> u8 {
         let mut drives = 0;
         for weight in [8, 4, 2, 1] {
             let (own, shown) = (self.number & weight != 0, lines & weight != 0);
@@ -83,7 +83,7 @@ impl Contender {
 }
 
 /// All eight bits, since the lines can be asked of a state that makes no sense as well.
-fn lines(contenders: &[Contender]) -> u8 {
+pub fn lines(contenders: &[Contender]) -> u8 {
     let weights = (0..8).map(|bit| 1 << bit);
     weights.filter(|weight| contenders.iter().any(|card| card.drives & weight != 0)).sum()
 }
@@ -456,7 +456,7 @@ fn set_from(state: &[u8], at: usize) -> BTreeSet<u8> {
     (0..16).filter(|card| in_set(state, at, *card)).collect()
 }
 
-fn contenders_from(state: &[u8]) -> Vec<Contender> {
+pub fn contenders_from(state: &[u8]) -> Vec<Contender> {
     let numbers = set_from(state, CONTENDERS_AT).into_iter();
     numbers.map(|number| Contender { number, drives: state[DRIVEN_AT + usize::from(number)] }).collect()
 }

@@ -1,13 +1,50 @@
-//! Counts of what the comparison reached: each number returned by each call, and each accepted kind in each phase.
+//! Counts of what the comparison reached: the numbers returned, the accepted kinds in each phase, the fields and the wrong lengths.
 
-use crate::both::Call;
+use crate::both::{Call, Lengths, RIGHT};
+use crate::face::{Field, NO_FIELD, PAGES_SIZE};
 
 pub struct Tally {
     setup: [u64; 256],
     step: [u64; 256],
     settle: [u64; 256],
     accepted: [[u64; 6]; 16],
-    fields: u64,
+    fields: [FieldCalls; 8],
+    wrong: [u64; 7],
+}
+
+#[derive(Clone, Copy, Default)]
+struct FieldCalls {
+    made: u64,
+    without_field: u64,
+}
+
+const FIELDS: [&str; 8] = ["fitted", "page", "phase", "contenders", "driven", "granted", "lines", "makes_sense"];
+
+fn place_of(field: Field) -> usize {
+    match field {
+        Field::Fitted => 0,
+        Field::Page(_) => 1,
+        Field::Phase => 2,
+        Field::Contenders => 3,
+        Field::Driven(_) => 4,
+        Field::Granted => 5,
+        Field::Lines => 6,
+        Field::MakesSense => 7,
+    }
+}
+
+const WRONG: [&str; 7] = ["setup's pages", "setup's state", "step's state", "step's answer", "step's memory", "step's ports", "settle's state"];
+
+/// In the order of `WRONG`.
+fn wrong_lengths(call: &Call, lent: Lengths) -> [bool; 7] {
+    let state = lent.state != RIGHT.state;
+    let (answer, memory, ports) = (lent.answer != RIGHT.answer, lent.memory != RIGHT.memory, lent.ports != RIGHT.ports);
+    match call {
+        Call::Setup { pages, .. } => [pages.len() != PAGES_SIZE, state, false, false, false, false, false],
+        Call::Step(_) => [false, false, state, answer, memory, ports, false],
+        Call::Settle { .. } => [false, false, false, false, false, false, state],
+        Call::Field(_) => [false; 7],
+    }
 }
 
 /// The phases in which the event table takes a kind: 01, "Events".
@@ -31,21 +68,34 @@ const SETTLE_ANSWERS: [usize; 8] = [0x00, 0x02, 0x03, 0x05, 0x06, 0x07, 0x08, 0x
 
 impl Tally {
     pub fn new() -> Tally {
-        Tally { setup: [0; 256], step: [0; 256], settle: [0; 256], accepted: [[0; 6]; 16], fields: 0 }
+        let (setup, step, settle, accepted) = ([0; 256], [0; 256], [0; 256], [[0; 6]; 16]);
+        Tally { setup, step, settle, accepted, fields: [FieldCalls::default(); 8], wrong: [0; 7] }
     }
 
-    pub fn note(&mut self, call: &Call, phase_before: u8, returned: u32) {
+    pub fn note(&mut self, call: &Call, lent: Lengths, phase_before: u8, returned: u32) {
         let number = returned as usize & 0xFF;
         match call {
             Call::Setup { .. } => self.setup[number] += 1,
             Call::Settle { .. } => self.settle[number] += 1,
-            Call::Field(_) => self.fields += 1,
+            Call::Field(field) => {
+                let calls = &mut self.fields[place_of(*field)];
+                calls.made += 1;
+                calls.without_field += u64::from(returned == if let Field::MakesSense = field { 0 } else { NO_FIELD });
+            }
             Call::Step(event) => {
                 self.step[number] += 1;
                 if number == 0 && event.kind < 16 && phase_before < 6 {
                     self.accepted[usize::from(event.kind)][usize::from(phase_before)] += 1;
                 }
             }
+        }
+        self.note_lengths(wrong_lengths(call, lent));
+    }
+
+    /// A wrong length beside another isn't counted, since then either may be the reason for the answer.
+    fn note_lengths(&mut self, wrong: [bool; 7]) {
+        if let [at] = (0..7).filter(|at| wrong[*at]).collect::<Vec<usize>>()[..] {
+            self.wrong[at] += 1;
         }
     }
 
@@ -59,7 +109,13 @@ impl Tally {
             let shown = (0x00..=0x0B).chain([0xFF]).map(|number| format!("{number:02X}: {}", counts[number]));
             println!("  {}", shown.collect::<Vec<String>>().join(", "));
         }
-        println!("field calls: {}", self.fields);
+        println!("field calls, and those among them that answered NO_FIELD or, of makes_sense, false:");
+        for (name, calls) in FIELDS.iter().zip(self.fields) {
+            println!("  {name}: {}, {}", calls.made, calls.without_field);
+        }
+        println!("calls with one wrong length:");
+        let shown = WRONG.iter().zip(self.wrong).map(|(name, count)| format!("{name}: {count}"));
+        println!("  {}", shown.collect::<Vec<String>>().join(", "));
         println!("accepted events, by kind and the phase before:");
         for kind in 0x01..=0x0F {
             let phases = (0..6).filter(|phase| is_allowed(kind, *phase));
@@ -79,9 +135,13 @@ impl Tally {
             let wrong = (0..6).filter(|phase| is_allowed(kind, *phase) != (self.accepted[kind][*phase] > 0));
             faults.extend(wrong.map(|phase| format!("kind {kind:02X} accepted {} times in phase {phase}", self.accepted[kind][phase])));
         }
-        if self.fields == 0 {
-            faults.push("no field was read".to_string());
+        for (name, calls) in FIELDS.iter().zip(self.fields) {
+            if calls.without_field == 0 || calls.without_field == calls.made {
+                faults.push(format!("{name} was without a field {} times of {}", calls.without_field, calls.made));
+            }
         }
+        let never = WRONG.iter().zip(self.wrong).filter(|(_, count)| *count == 0);
+        faults.extend(never.map(|(name, _)| format!("{name} was never alone of a wrong length")));
         faults
     }
 }
