@@ -176,7 +176,7 @@ run-is-the-run (c ∷ calls) state fits =
 
 -- ---- Refused
 
-accepted-answers : (m : Machine) (event : Event) → refusalIn m event ≡ Refusal.accepted → answerTo m event .refusal ≡ Refusal.accepted
+pub accepted-answers : (m : Machine) (event : Event) → refusalIn m event ≡ Refusal.accepted → answerTo m event .refusal ≡ Refusal.accepted
 unfolding answerTo
 accepted-answers m event ok = rw ok refl
 

@@ -4,3 +4,4 @@ pub mod LayoutLaws
 pub mod CallLaws
 pub mod ReadBack
 pub mod CallPromises
+pub mod OwnNumber

@@ -77,6 +77,13 @@ SettleMisfits =
     (state cards : List ℕ) (looks : ℕ) → isState state ≡ false
     → (settleAnswers state cards ≡ wrongLength) × ((settleLeaves state cards ≡ state) × (settleCounts state cards looks ≡ looks))
 
+-- No other answer has that number.
+abbrev pub WrongLengthIsOwn : Type 0
+WrongLengthIsOwn =
+    ((fitted : ℕ) (pages state : List ℕ) → setupAnswers fitted pages state ≡ wrongLength → setupFits pages state ≡ false)
+    × (((given : Lent) (event : Event) → stepAnswers given event ≡ wrongLength → placesFit given ≡ false)
+    × ((state cards : List ℕ) → settleAnswers state cards ≡ wrongLength → isState state ≡ false))
+
 -- ---- Else a call is the model's: decoding what it leaves gives what the model's function gives.
 
 abbrev pub SetupIsTheSetup : Type 0
