@@ -65,18 +65,18 @@ impl Buffer {
         &mut self.all[MARGIN..MARGIN + length]
     }
 
-    /// What is looked at after a call that was lent so many bytes: these, any others that are right, and the margins.
+    /// What is compared after a call that was lent so many bytes: these, any others that are right, and a margin on either side.
     fn around(&self, length: usize) -> &[u8] {
         &self.all[..MARGIN + length.max(self.right) + MARGIN]
     }
 
-    fn fill_around(&mut self, length: usize, byte: u8) {
+    fn fill(&mut self, byte: u8, length: usize) {
         self.all[..MARGIN + length.max(self.right) + MARGIN].fill(byte);
     }
 
     fn shown(&self, length: usize) -> String {
-        let (front, lent) = self.around(length).split_at(MARGIN);
-        let (lent, behind) = lent.split_at(length);
+        let (front, rest) = self.around(length).split_at(MARGIN);
+        let (lent, behind) = rest.split_at(length);
         format!("{} | {} | {}", hex(front), hex(lent), hex(behind))
     }
 }
@@ -105,7 +105,7 @@ impl Side {
 
     /// Fills what the call may or may not write with bytes that it can't know, so that both a write too many and one too few show.
     fn prepare(&mut self, call: &Call, lent: Lengths, garbage: u64) {
-        self.answer.fill_around(lent.answer, garbage as u8);
+        self.answer.fill(garbage as u8, lent.answer);
         self.looks = [garbage as usize; 3];
         match call {
             Call::Setup { pages: list, .. } | Call::Settle { cards: list } => self.list.hold(list, garbage as u8),
@@ -139,8 +139,9 @@ impl Side {
         }
     }
 
-    fn agrees_but_for_memory(&self, other: &Side, lent: Lengths) -> bool {
+    fn agrees(&self, other: &Side, lent: Lengths) -> bool {
         self.state.around(lent.state) == other.state.around(lent.state)
+            && self.memory.around(lent.memory) == other.memory.around(lent.memory)
             && self.ports.around(lent.ports) == other.ports.around(lent.ports)
             && self.answer.around(lent.answer) == other.answer.around(lent.answer)
             && self.list == other.list
@@ -193,7 +194,7 @@ impl Both {
         let found = self.library.through_face(&call, lent);
         let expected = self.model.by_model(&call, lent);
         self.tally.note(&call, lent, state[PHASE_AT], found);
-        let agrees = found == expected && self.library.agrees_but_for_memory(&self.model, lent) && self.memory_agrees(&call, lent);
+        let agrees = found == expected && self.library.agrees(&self.model, lent);
         self.last = Some(Made { call, lent, state });
         if !agrees {
             self.fail("the library and the model differ", &self.difference(found, expected, lent));
@@ -201,16 +202,10 @@ impl Both {
         found
     }
 
-    /// Looks are most of the calls, and the memory most of the bytes: after looks it is compared now and then, after all else always.
-    fn memory_agrees(&self, call: &Call, lent: Lengths) -> bool {
-        let left_out = matches!(call, Call::Step(Event { kind: 0x02, .. })) && self.calls % 8 != 0;
-        left_out || self.library.memory.around(lent.memory) == self.model.memory.around(lent.memory)
-    }
-
-    /// Compares once more, with all that was ever lent.
+    /// Compares once more, also what lies beyond the margins of the calls so far.
     pub fn end(&self) {
         if self.library != self.model {
-            self.fail("the library wrote where no call of late could write", "");
+            self.fail("the library and the model differ at the end", "in bytes beyond the margins");
         }
     }
 
@@ -246,11 +241,10 @@ impl Both {
     fn difference(&self, found: u32, expected: u32, lent: Lengths) -> String {
         let mut text = format!("returned: library {found:02X}, model {expected:02X}\n");
         let (ours, theirs) = (&self.library, &self.model);
-        let listed = theirs.list.right;
         for (name, library, model, length) in [
             ("state", &ours.state, &theirs.state, lent.state),
             ("answer", &ours.answer, &theirs.answer, lent.answer),
-            ("list", &ours.list, &theirs.list, listed),
+            ("list", &ours.list, &theirs.list, theirs.list.right),
         ] {
             _ = writeln!(text, "{name}, between its margins:\n  library {}\n  model   {}", library.shown(length), model.shown(length));
         }

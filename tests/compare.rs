@@ -10,7 +10,7 @@ mod model;
 mod rounds;
 mod tally;
 
-use both::{Both, Call, State, RIGHT};
+use both::{Both, Call, Lengths, State, RIGHT};
 use draw::Chance;
 use face::{Event, Field, GRANTED_AT, NOBODY, PAGES_AT, PAGES_SIZE, PERMANENT_MASTER, STATE_SIZE};
 use model::Refusal;
@@ -122,6 +122,29 @@ fn senseless_states(both: &mut Both, chance: &mut Chance, cases: usize) {
     }
 }
 
+/// Each buffer alone of a wrong length, with every call that it is lent to.
+fn wrong_lengths(both: &mut Both, chance: &mut Chance, cases: usize) {
+    for case in 0..cases {
+        let wrong = |right: usize| draw::wrong_lengths(right)[case % 5];
+        let state = draw::sensible_in(chance, (case % 6) as u8);
+        both.place(&state);
+        let wrong_state = Lengths { state: wrong(RIGHT.state), ..RIGHT };
+        let right_pages = Call::Setup { fitted: chance.next() as u16, pages: vec![1; PAGES_SIZE] };
+        let wrong_pages = Call::Setup { fitted: chance.next() as u16, pages: vec![1; wrong(PAGES_SIZE)] };
+        let settle = Call::Settle { cards: draw::list(chance, &state) };
+        let mut calls = vec![(right_pages, wrong_state), (wrong_pages, RIGHT), (settle, wrong_state)];
+        calls.extend(draw::fields(chance.between(0, 15)).map(|field| (Call::Field(field), wrong_state)));
+        let (memory, ports, answer) = (wrong(RIGHT.memory), wrong(RIGHT.ports), wrong(RIGHT.answer));
+        for lent in [wrong_state, Lengths { memory, ..RIGHT }, Lengths { ports, ..RIGHT }, Lengths { answer, ..RIGHT }] {
+            calls.push((Call::Step(draw::next_event(chance, &state)), lent));
+        }
+        for (call, lent) in calls {
+            both.make(call, lent);
+            both.expect(both.state() == state, "a call with a wrong length leaves the state");
+        }
+    }
+}
+
 /// What a word written and then read leaves and shows, over a page of this code: the bytes, the datum and the cycles.
 fn word_over(both: &mut Both, page: u8, write: Event, before: [u8; 2]) -> ([u8; 2], [u8; 2], u8) {
     let at = write.address as usize;
@@ -130,10 +153,10 @@ fn word_over(both: &mut Both, page: u8, write: Event, before: [u8; 2]) -> ([u8; 
     both.place(&state);
     both.place_memory(at, &before);
     let written = both.step(write);
-    let bytes = [both.library.memory[at], both.library.memory[at + 1]];
+    let bytes = [both.library.memory.bytes()[at], both.library.memory.bytes()[at + 1]];
     let read = both.step(Event { kind: 0x09, datum: 0, ..write });
     both.expect(written == 0 && read == 0, "a word at an even address of a present page is accepted");
-    let answer = &both.library.answer;
+    let answer = both.library.answer.bytes();
     (bytes, [answer[7], answer[8]], answer[6])
 }
 
@@ -150,6 +173,28 @@ fn words(both: &mut Both, chance: &mut Chance, cases: usize) {
         let sixteen_bit = word_over(both, 2, write, before);
         both.expect(sixteen_bit == (halves, halves, 1), "over a sixteen-bit page the high half goes to the even address, in one cycle");
     }
+}
+
+/// Tells how many sets of contenders were taken through four rounds, and returns what is wrong about these numbers.
+fn arbitration(both: &mut Both, chance: &mut Chance) -> Vec<String> {
+    rounds::three_rounds_fall_short(both, chance);
+    rounds::acknowledge_waits(both, chance, 20_000);
+    rounds::settle_counts(both, chance, 5000);
+    let mut faults = Vec::new();
+    for (what, sets, taken) in [
+        ("all sets of contenders", 65_535, rounds::every_set(both, chance)),
+        ("sets of three, in all orders", 560, rounds::sets_of_three(both, chance)),
+        ("small sets, in random orders", 20_000, rounds::small_sets(both, chance, 20_000)),
+    ] {
+        println!("{what}, taken through four rounds: {}, for {} of which three were too few", taken.sets, taken.late);
+        if taken.sets != sets {
+            faults.push(format!("{what}: {} instead of {sets}", taken.sets));
+        }
+        if taken.late == 0 {
+            faults.push(format!("{what}: three rounds were always enough"));
+        }
+    }
+    faults
 }
 
 fn arguments() -> Option<(u64, u64)> {
@@ -175,20 +220,13 @@ fn main() {
     senseless_states(&mut both, &mut chance, 300);
     page_codes(&mut both, &mut chance);
     words(&mut both, &mut chance, 5000);
-    rounds::three_rounds_fall_short(&mut both, &mut chance);
-    rounds::acknowledge_waits(&mut both, &mut chance, 20_000);
-    rounds::settle_counts(&mut both, &mut chance, 5000);
-    let late = rounds::every_set(&mut both, &mut chance);
-    let late_small = rounds::small_sets(&mut both, &mut chance, 20_000);
+    wrong_lengths(&mut both, &mut chance, 300);
+    let mut faults = arbitration(&mut both, &mut chance);
+    both.end();
 
     both.tally.print();
-    println!("contender sets taken through four rounds: 65535, for {late} of which three were too few");
-    println!("small sets taken through four rounds: 20000, for {late_small} of which three were too few");
     println!("calls in all: {} (seed {seed})", both.calls);
-    let mut faults = both.tally.faults();
-    if late_small == 0 {
-        faults.push("three rounds were always enough".to_string());
-    }
+    faults.extend(both.tally.faults());
     for fault in &faults {
         println!("not as it ought to be: {fault}");
     }

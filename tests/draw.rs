@@ -387,8 +387,8 @@ pub fn rounds(chance: &mut Chance, contenders: u16, number: usize) -> Vec<u8> {
     cards
 }
 
-/// A settle list: of every sort, from those that settle to those with numbers that don't belong there, at the end as well. Among these the
-/// idle cards come most often, since they are refused in arbitration only.
+/// A settle list: of every sort, from those that settle to those with numbers that don't belong there, at the end as well. Idle cards are
+/// the most frequent of these, since only in arbitration is a list refused for them.
 pub fn list(chance: &mut Chance, state: &State) -> Vec<u8> {
     let contenders = set_at(state, CONTENDERS_AT);
     let many = chance.pick(&[0, 1, 1, 2, 3, 4, 5, 40]);

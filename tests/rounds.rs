@@ -2,9 +2,9 @@
 
 use crate::both::{Both, State};
 use crate::draw::{self, cards_of, set_at, Chance};
-use crate::face::{Event, Field, ANSWER_SIZE, CONTENDERS_AT, GRANTED_AT, MEMORY_SIZE, PHASE_AT, PORTS_SIZE};
-use crate::model;
-use crate::model::Refusal;
+use crate::face::{Event, Field, ANSWER_SIZE, CONTENDERS_AT, DRIVEN_AT, GRANTED_AT, MEMORY_SIZE, PHASE_AT, PORTS_SIZE};
+use crate::model::{self, Refusal};
+use std::collections::BTreeSet;
 
 const ACKNOWLEDGE: Event = Event { kind: 0x03, speaker: 0, address: 0, datum: 0 };
 
@@ -30,8 +30,35 @@ fn interlude(both: &mut Both, chance: &mut Chance) {
     both.expect(both.state() == before, "only looks, acknowledge and reset move an arbitration");
 }
 
-fn one_round(both: &mut Both, chance: &mut Chance, contenders: u16) {
-    for card in draw::rounds(chance, contenders, 1) {
+/// The looks of one round, which starts from this state.
+type Round = fn(&mut Chance, &State) -> Vec<u8>;
+
+fn at_random(chance: &mut Chance, state: &State) -> Vec<u8> {
+    draw::rounds(chance, set_at(state, CONTENDERS_AT), 1)
+}
+
+fn ascending(_: &mut Chance, state: &State) -> Vec<u8> {
+    cards_of(set_at(state, CONTENDERS_AT))
+}
+
+/// First those whose looks change the fewest bits: so they have looked already when another makes the change that they wait for.
+fn unluckily(_: &mut Chance, state: &State) -> Vec<u8> {
+    let mut contenders = model::contenders_from(state);
+    let mut waiting: Vec<usize> = (0..contenders.len()).collect();
+    let mut round = Vec::new();
+    while !waiting.is_empty() {
+        let shown = model::lines(&contenders);
+        let changes = |at: &usize| (contenders[*at].would_drive(shown) ^ contenders[*at].drives).count_ones();
+        let first = (0..waiting.len()).min_by_key(|place| changes(&waiting[*place])).expect("one that waits");
+        let looking = &mut contenders[waiting.remove(first)];
+        looking.drives = looking.would_drive(shown);
+        round.push(looking.number);
+    }
+    round
+}
+
+fn one_round(both: &mut Both, chance: &mut Chance, round: Round) {
+    for card in round(chance, &both.state()) {
         let number = both.step(look(card));
         both.expect(number == 0, "a contender may look");
         if chance.one_in(8) {
@@ -56,46 +83,112 @@ fn grants(both: &mut Both, highest: u8) {
     both.expect(number == 0 && both.state() == expected, "settled lines are acknowledged and the highest contender is granted");
 }
 
-/// Whether three rounds were too few from this state on; four never are.
-fn four_rounds(both: &mut Both, chance: &mut Chance, state: &State) -> bool {
-    let contenders = set_at(state, CONTENDERS_AT);
-    let highest = 15 - contenders.leading_zeros() as u8;
-    both.place(state);
-    for _ in 0..3 {
-        one_round(both, chance, contenders);
-    }
-    let too_few = !is_acknowledged(both);
-    one_round(both, chance, contenders);
+fn ends_settled(both: &mut Both) {
     let settled = both.state();
+    let cards = cards_of(set_at(&settled, CONTENDERS_AT));
+    let highest = *cards.last().expect("a contender");
     let shown = shows(both, highest);
     both.expect(shown, "after four rounds the lines show the highest contender");
-    for card in draw::rounds(chance, contenders, 1) {
+    for card in cards {
         both.step(look(card));
         both.expect(both.state() == settled, "a look at settled lines changes nothing");
     }
     grants(both, highest);
-    too_few
 }
 
-/// Four rounds for each of the 65,535 sets of contenders; returns for how many of them three were too few.
-pub fn every_set(both: &mut Both, chance: &mut Chance) -> usize {
-    let mut too_few = 0;
-    for contenders in 1..=0xFFFF {
-        let state = draw::driven_arbitration(chance, contenders);
-        too_few += usize::from(four_rounds(both, chance, &state));
+/// Whether three rounds were too few from this state on; four never are.
+fn four_rounds(both: &mut Both, chance: &mut Chance, state: &State, [first, later]: [Round; 2]) -> bool {
+    both.place(state);
+    for round in [first, later, later] {
+        one_round(both, chance, round);
     }
+    let too_few = !is_acknowledged(both);
+    one_round(both, chance, later);
+    ends_settled(both);
     too_few
 }
 
-/// The same for up to four contenders that don't yet drive, where three rounds are too few more often.
-pub fn small_sets(both: &mut Both, chance: &mut Chance, cases: usize) -> usize {
-    let mut too_few = 0;
+/// How many sets of contenders were taken through four rounds, and for how many of them three were too few.
+#[derive(Default)]
+pub struct Taken {
+    pub sets: usize,
+    pub late: usize,
+}
+
+impl Taken {
+    fn note(&mut self, too_few: bool) {
+        self.sets += 1;
+        self.late += usize::from(too_few);
+    }
+}
+
+/// Every set there is, in random rounds and in unlucky ones, whose first ascends: so low cards drive what a high one would have kept down.
+pub fn every_set(both: &mut Both, chance: &mut Chance) -> Taken {
+    let mut taken = Taken::default();
+    for contenders in 1..=0xFFFF {
+        let (driven, undriven) = (draw::driven_arbitration(chance, contenders), draw::undriven_arbitration(chance, contenders));
+        let random_late = four_rounds(both, chance, &driven, [at_random, at_random]);
+        let unlucky_late = four_rounds(both, chance, &undriven, [ascending, unluckily]);
+        taken.note(random_late || unlucky_late);
+    }
+    taken
+}
+
+/// Up to four contenders that don't yet drive, where three random rounds are too few more often.
+pub fn small_sets(both: &mut Both, chance: &mut Chance, cases: usize) -> Taken {
+    let mut taken = Taken::default();
     for _ in 0..cases {
         let contenders = (0..4).fold(0, |set, _| set | 1 << chance.below(16));
         let state = draw::undriven_arbitration(chance, contenders);
-        too_few += usize::from(four_rounds(both, chance, &state));
+        taken.note(four_rounds(both, chance, &state, [at_random, at_random]));
     }
-    too_few
+    taken
+}
+
+const ORDERS_OF_THREE: [[usize; 3]; 6] = [[0, 1, 2], [0, 2, 1], [1, 0, 2], [1, 2, 0], [2, 0, 1], [2, 1, 0]];
+
+/// The states in which a round of three can end that starts from one of these.
+fn ends_of_a_round(both: &mut Both, states: &BTreeSet<State>) -> BTreeSet<State> {
+    let mut ends = BTreeSet::new();
+    for state in states {
+        let cards = cards_of(set_at(state, CONTENDERS_AT));
+        for order in ORDERS_OF_THREE {
+            both.place(state);
+            for at in order {
+                let number = both.step(look(cards[at]));
+                both.expect(number == 0, "a contender may look");
+            }
+            ends.insert(both.state());
+        }
+    }
+    ends
+}
+
+/// Every set of three in every order of every round, from where none drives and from where all drive 15.
+pub fn sets_of_three(both: &mut Both, chance: &mut Chance) -> Taken {
+    let mut taken = Taken::default();
+    for contenders in (1..=0xFFFF_u16).filter(|set| set.count_ones() == 3) {
+        let undriven = draw::undriven_arbitration(chance, contenders);
+        let mut driven = undriven;
+        for card in cards_of(contenders) {
+            driven[DRIVEN_AT + usize::from(card)] = 15;
+        }
+        let mut states = BTreeSet::from([undriven, driven]);
+        for _ in 0..3 {
+            states = ends_of_a_round(both, &states);
+        }
+        let mut too_few = false;
+        for state in &states {
+            both.place(state);
+            too_few |= !is_acknowledged(both);
+        }
+        for state in &ends_of_a_round(both, &states) {
+            both.place(state);
+            ends_settled(both);
+        }
+        taken.note(too_few);
+    }
+    taken
 }
 
 /// 01, "Marked for proof", M1 to M6.
@@ -115,14 +208,14 @@ pub fn three_rounds_fall_short(both: &mut Both, chance: &mut Chance) {
     let after_all = both.state();
     both.place(&undriven);
     let number = both.settle(rounds.concat());
-    both.expect(number == 0 && both.library.looks == 10 && both.state() == after_all, "settle over the twelve takes 10 looks");
+    both.expect(number == 0 && both.library.looks() == 10 && both.state() == after_all, "settle over the twelve takes 10 looks");
     both.place(&undriven);
     let number = both.settle(rounds[..3].concat());
     both.expect(number == Refusal::Unsettled as u32, "settle over the first nine is refused");
-    both.expect(both.state() == undriven && both.library.looks == 0, "a refused settle takes no look");
+    both.expect(both.state() == undriven && both.library.looks() == 0, "a refused settle takes no look");
 }
 
-/// An acknowledge is refused as unsettled exactly if some contender's look would change what it drives.
+/// An acknowledge, accepted or refused by what the contenders' looks, each tried alone, do to the same state.
 pub fn acknowledge_waits(both: &mut Both, chance: &mut Chance, cases: usize) {
     for _ in 0..cases {
         let state = draw::sensible_in(chance, 1);
@@ -160,8 +253,8 @@ impl Looks {
         cards_of(set_at(state, CONTENDERS_AT)).iter().all(|card| self.after(*state, *card) == *state)
     }
 
-    /// The least number of leading looks that settles the lines, and the state then.
-    fn least(&mut self, mut state: State, cards: &[u8]) -> Option<(usize, State)> {
+    /// Where a settle has to end: the looks taken and the state, if the list is long enough.
+    fn end(&mut self, mut state: State, cards: &[u8]) -> Option<(usize, State)> {
         for taken in 0..=cards.len() {
             if self.have_settled(&state) {
                 return Some((taken, state));
@@ -172,12 +265,12 @@ impl Looks {
     }
 }
 
-fn settle_takes_the_least(both: &mut Both, looks: &mut Looks, state: State, cards: Vec<u8>) {
-    let least = looks.least(state, &cards);
+fn settle_ends_in_time(both: &mut Both, looks: &mut Looks, state: State, cards: Vec<u8>) {
+    let end = looks.end(state, &cards);
     both.place(&state);
     let settled = both.settle(cards) == 0;
-    let found = settled.then(|| (both.library.looks, both.state()));
-    both.expect(found == least, "settle takes the least number of leading looks that settles the lines");
+    let found = settled.then(|| (both.library.looks(), both.state()));
+    both.expect(found == end, "settle ends where single looks show that it has to");
 }
 
 /// Short lists of all contenders, and long ones in which one card looks so often that a counter of 8 or 16 bits would run over.
@@ -187,14 +280,14 @@ pub fn settle_counts(both: &mut Both, chance: &mut Chance, cases: usize) {
         let (state, number) = (draw::sensible_in(chance, 1), chance.below(5));
         let mut cards = draw::rounds(chance, set_at(&state, CONTENDERS_AT), number);
         cards.truncate(chance.below(60));
-        settle_takes_the_least(both, &mut looks, state, cards);
+        settle_ends_in_time(both, &mut looks, state, cards);
     }
     for many in [254, 255, 256, 257, 65_534, 65_535, 65_536, 65_537, 150_000] {
         let (low, high) = (chance.between(0, 7), chance.between(8, 15));
         let state = draw::undriven_arbitration(chance, 1 << low | 1 << high);
         let mut cards = vec![low; many];
-        settle_takes_the_least(both, &mut looks, state, cards.clone());
+        settle_ends_in_time(both, &mut looks, state, cards.clone());
         cards.extend([high, low, high, low, high]);
-        settle_takes_the_least(both, &mut looks, state, cards);
+        settle_ends_in_time(both, &mut looks, state, cards);
     }
 }

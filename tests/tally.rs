@@ -33,7 +33,8 @@ fn place_of(field: Field) -> usize {
     }
 }
 
-const WRONG: [&str; 7] = ["setup's pages", "setup's state", "step's state", "step's answer", "step's memory", "step's ports", "settle's state"];
+const WRONG: [&str; 7] =
+    ["setup's pages", "setup's state", "step's state", "step's answer", "step's memory", "step's ports", "settle's state"];
 
 /// In the order of `WRONG`.
 fn wrong_lengths(call: &Call, lent: Lengths) -> [bool; 7] {
@@ -113,7 +114,7 @@ impl Tally {
         for (name, calls) in FIELDS.iter().zip(self.fields) {
             println!("  {name}: {}, {}", calls.made, calls.without_field);
         }
-        println!("calls with one wrong length:");
+        println!("calls with one wrong length, by whose it was:");
         let shown = WRONG.iter().zip(self.wrong).map(|(name, count)| format!("{name}: {count}"));
         println!("  {}", shown.collect::<Vec<String>>().join(", "));
         println!("accepted events, by kind and the phase before:");
