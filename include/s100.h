@@ -2,9 +2,9 @@
  *
  * The library keeps nothing between calls. A caller owns the state, the memory and the ports, lends them to a call and finds them changed
  * afterwards. Each buffer is a pointer with the number of its bytes behind it. A call judges that number and never reads or writes beyond
- * it. The rest is the caller's duty: no pointer is NULL, not even one to no bytes; each is good for its bytes, and that to a number for that
- * number; and what a call writes overlaps nothing else that it is lent. Calls may run at the same time unless one of them writes what
- * another is lent.
+ * it. The rest is the caller's duty: no pointer is NULL, not even one to no bytes; each is good for its bytes, and `looks` points to a
+ * size_t; and what a call writes overlaps nothing else that it is lent. Calls may run at the same time unless one of them writes what another
+ * is lent.
  *
  * Whatever the bytes are, every call ends, with an answer that depends on nothing but what it is given. What is proved of each is in
  * crates/s100_c/specs. No proof covers this file, which was written by hand: tests/header.c and examples/calling/printed.c include it, and
@@ -142,8 +142,8 @@ uint8_t s100_setup(uint16_t fitted, const uint8_t *pages, size_t pages_length, u
 uint8_t s100_step(uint8_t *state, size_t state_length, uint8_t kind, uint8_t speaker, uint32_t address, uint16_t datum, uint8_t *memory,
                   size_t memory_length, uint8_t *ports, size_t ports_length, uint8_t *answer, size_t answer_length);
 
-/* Has the listed cards look in turn until the priority lines are settled, and stores the number of looks taken. A refused settle leaves the
- * state as it was and stores 0. The list may have any length. With a state of a wrong length nothing is written, no number either, and the
+/* Has the listed cards look in turn until the priority lines are settled, and stores how many looks that took. A refused settle changes no
+ * byte of the state and stores 0. The list may have any length. With a state of a wrong length nothing is written, no number either, and the
  * answer is S100_WRONG_LENGTH. */
 uint8_t s100_settle(uint8_t *state, size_t state_length, const uint8_t *cards, size_t cards_length, size_t *looks);
 

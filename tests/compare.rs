@@ -32,7 +32,7 @@ fn single(both: &mut Both, chance: &mut Chance) {
     both.make(call, draw::lengths(chance));
 }
 
-/// Calls of which each is given the state that the one before left.
+/// A run of calls over one state, from a setup on.
 fn walk(both: &mut Both, chance: &mut Chance, calls: usize) {
     while both.make(setup(chance), RIGHT) != 0 {}
     for _ in 0..calls {
