@@ -105,9 +105,9 @@ impl Tally {
     }
 
     pub fn print(&self) {
-        for (name, counts, _) in self.calls() {
+        for (name, counts, answers) in self.calls() {
             println!("{name}, by number returned:");
-            let shown = (0x00..=0x0B).chain([0xFF]).map(|number| format!("{number:02X}: {}", counts[number]));
+            let shown = answers.iter().map(|number| format!("{number:02X}: {}", counts[*number]));
             println!("  {}", shown.collect::<Vec<String>>().join(", "));
         }
         println!("field calls, and those among them that answered NO_FIELD or, of makes_sense, false:");
