@@ -1,6 +1,6 @@
 -- Bytes put one part after another are the parts put as one, and parts taken out again are what was put.
 use mathlib.Core.Path.{_≡_, refl, sym, ap, ap₂, _∙_}
-use mathlib.Core.List.{List, [], _∷_, _++_}
+use mathlib.Core.List.{List, [], _∷_, _++_, append-nil}
 use Prim.Native.Nat.{ℕ, suc, _+_, _/_, _%_, _<_}
 use native.Mathlib.Omega.{arith}
 use lib.ListN.{length, getD, take, drop, set, length-append, length-drop}
@@ -16,15 +16,11 @@ sets-both : (l : List ℕ) (at next : ℕ) (a b : List ℕ) → at + length a �
 sets-both l at next [] b e = let here : next ≡ at = omega (arith, e) in ap (λ (k : ℕ). sets l k b) here
 sets-both l at next (x ∷ a) b e = sets-both (set l at x) (suc at) next a b (omega (arith, e))
 
-append-nothing : (l : List ℕ) → l ++ [] ≡ l
-append-nothing [] = refl
-append-nothing (x ∷ l) = ap (λ (k : List ℕ). x ∷ k) (append-nothing l)
-
 -- a buffer that is as long as what is put holds just that
 sets-all : (l bytes : List ℕ) → length bytes ≡ length l → sets l 0 bytes ≡ bytes
 sets-all l bytes e =
     let whole : 0 + length bytes ≡ length l = omega (arith, e) in
-    sets-eq bytes l 0 (omega (arith, e)) ∙ ap (λ (k : ℕ). bytes ++ drop k l) whole ∙ ap (λ (k : List ℕ). bytes ++ k) (drop-length l) ∙ append-nothing bytes
+    sets-eq bytes l 0 (omega (arith, e)) ∙ ap (λ (k : ℕ). bytes ++ drop k l) whole ∙ ap (λ (k : List ℕ). bytes ++ k) (drop-length l) ∙ append-nil bytes
 
 -- one byte more of sixteen
 pub sixteen-next : (l : List ℕ) (at i : ℕ) (entries : List ℕ) → i < length entries

@@ -1,6 +1,6 @@
 -- What is put is read back, and what is read is put back.
 use mathlib.Core.Path.{_≡_, refl, sym, ap, ap₂, _∙_}
-use mathlib.Core.List.{List, [], _∷_, _++_}
+use mathlib.Core.List.{List, [], _∷_, _++_, append-assoc}
 use Prim.Native.Nat.{ℕ, _+_, _*_, _/_, _%_, _<_}
 use native.Mathlib.Omega.{arith}
 use lib.ListN.{length, getD, take, drop, length-drop, take-append-drop}
@@ -13,10 +13,6 @@ use Rattle.s100_c.specs.Promises.{Whole, StateReadsBack, SensibleReadsBa
 use Rattle.s100_c.proofs.LayoutLaws.{state-long}
 
 -- ---- Put, then read
-
-append-assoc : (a b c : List ℕ) → (a ++ b) ++ c ≡ a ++ (b ++ c)
-append-assoc [] b c = refl
-append-assoc (x ∷ a) b c = ap (λ (l : List ℕ). x ∷ l) (append-assoc a b c)
 
 -- the levels and what is behind them; the pages and what is behind them
 abbrev fromDriven : Bus → List ℕ
