@@ -1,24 +1,17 @@
-// The text program: it reads standard input, hands the session what came, and writes the answers to standard output.
+// The text program: it reads its input, hands the session what came, and writes the answers to standard output.
+ghost use Prim.Native.Nat.{_<_};
 ghost use mathlib.Core.Path.{_≡_};
 ghost use lib.ListN.{take};
-use libc::STDIN_FILENO;
 use libc::STDOUT_FILENO;
 use session::Session;
 use session::Stage;
 use session::feed;
 use session::finish;
 
-// How the program goes on.
-enum Next {
-    Feed,
-    // The input has ended.
-    Finish,
-    // Reading or writing failed, or the run is over.
-    Stop,
-}
-
+// A turn's end.
 struct Turn {
-    next: Next,
+    // There is more to come: nothing failed, and neither the input nor the run has ended.
+    goes_on: bool,
     // Nothing complete is held, so that more has to be read.
     reads: bool,
     session: Session,
@@ -33,73 +26,60 @@ struct Filled {
 }
 
 // It has no result, and no contract can say what is read and written: the runs compare that.
-pub fn run()
+pub fn run(input: i32)
     ensures { λ r. ⌜ r ≡ tt ⌝ }
 {
     let mut text = [0u8; 32768];
     let mut out = io::large_buffer();
     let mut memory = [0u8; 65536];
     let mut ports = [0u8; 256];
-    take_turns(&mut text, &mut out, &mut memory, &mut ports);
+    take_turns(input, &mut text, &mut out, &mut memory, &mut ports);
 }
 
 // A proved loop ends, and no input is as long as this one may go on.
-fn take_turns(text: &mut [u8], out: &mut [u8], memory: &mut [u8], ports: &mut [u8]) {
+fn take_turns(input: i32, text: &mut [u8], out: &mut [u8], memory: &mut [u8], ports: &mut [u8]) {
     let mut left = u64::MAX;
     let mut session = Session::fresh();
     let mut held: usize = 0;
     let mut reads = true;
     while 0 < left {
-        let at = take_turn(session, held, reads, text, out, memory, ports);
-        session = at.session;
-        held = at.held;
-        reads = at.reads;
-        let next = at.next;
-        match next {
-            Next::Feed => {
-                left -= 1;
-            }
-            Next::Finish => {
-                last(session, held, text, out, memory, ports);
-                left = 0;
-            }
-            Next::Stop => {
-                left = 0;
-            }
-        }
+        let filled = fill(input, text, held, reads);
+        let turn = take_turn(session, filled, text, out, memory, ports);
+        session = turn.session;
+        held = turn.held;
+        reads = turn.reads;
+        left = turns_left(left, turn.goes_on);
     }
+}
+
+fn turns_left(left: u64, goes_on: bool) -> u64
+    requires { ⌜ 0 < left ⌝ }
+    ensures { λ r. ⌜ r < left ⌝ }
+{
+    if goes_on { left - 1 } else { 0 }
 }
 
 // It reads only once every complete line is answered, so that nobody waits for an answer while the program waits for more.
 fn take_turn(
     session: Session,
-    held: usize,
-    reads: bool,
+    filled: Filled,
     text: &mut [u8],
     out: &mut [u8],
     memory: &mut [u8],
     ports: &mut [u8],
 ) -> Turn {
-    let filled = fill(text, held, reads);
     let fed = feed(session, text, filled.size, out, memory, ports);
     let is_written = write_front(out, fed.written);
     let next = fed.session;
     let stage = next.stage;
+    let is_over = filled.failed | !is_written | has_ended(stage);
+    let is_last = filled.ended & !is_over;
+    last(is_last, next, fed.held, text, out, memory, ports);
     Turn {
-        next: after(filled, stage, is_written),
+        goes_on: !is_over & !filled.ended,
         reads: fed.written == 0,
         session: next,
         held: fed.held,
-    }
-}
-
-fn after(filled: Filled, stage: Stage, is_written: bool) -> Next {
-    if filled.failed | !is_written | has_ended(stage) {
-        Next::Stop
-    } else if filled.ended {
-        Next::Finish
-    } else {
-        Next::Feed
     }
 }
 
@@ -111,8 +91,9 @@ fn has_ended(stage: Stage) -> bool {
     }
 }
 
-// The unended last line.
+// Where the input has ended, the unended last line.
 fn last(
+    is_last: bool,
     session: Session,
     held: usize,
     text: &mut [u8],
@@ -120,15 +101,18 @@ fn last(
     memory: &mut [u8],
     ports: &mut [u8],
 ) {
+    if !is_last {
+        return;
+    }
     let fed = finish(session, text, held, out, memory, ports);
     write_front(out, fed.written);
 }
 
-fn fill(text: &mut [u8], held: usize, reads: bool) -> Filled
+fn fill(input: i32, text: &mut [u8], held: usize, reads: bool) -> Filled
     ensures { λ _. ⌜ take held (now (text .exit)) ≡ take held (now (text .entry)) ⌝ }
 {
     if reads {
-        read_behind(text, held)
+        read_behind(input, text, held)
     } else {
         Filled {
             failed: false,
@@ -139,11 +123,11 @@ fn fill(text: &mut [u8], held: usize, reads: bool) -> Filled
 }
 
 // What is held stays in front of what is read.
-fn read_behind(text: &mut [u8], held: usize) -> Filled
+fn read_behind(input: i32, text: &mut [u8], held: usize) -> Filled
     ensures { λ _. ⌜ take held (now (text .exit)) ≡ take held (now (text .entry)) ⌝ }
 {
     if held < text.len() {
-        let got = libc::read(STDIN_FILENO, &mut text[held..]);
+        let got = libc::read(input, &mut text[held..]);
         Filled {
             failed: got < 0,
             ended: got == 0,

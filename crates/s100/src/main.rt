@@ -1,4 +1,4 @@
 // The text program.
 fn main() {
-    program::run();
+    program::run(libc::STDIN_FILENO);
 }

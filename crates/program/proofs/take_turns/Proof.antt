@@ -7,11 +7,11 @@ use Rattle.program.proofs.take_turns.Statement.{statement}
 use Rattle.program.proofs.take_turns.Tie as tie
 
 abbrev Inv-loop : tie.InvT-loop
-Inv-loop text₀ out₀ memory₀ ports₀ left₀ session₀ held₀ reads₀ text out memory ports left session held reads =
+Inv-loop input text₀ out₀ memory₀ ports₀ left₀ session₀ held₀ reads₀ text out memory ports left session held reads =
     (length text ≡ length text₀) × ((length out ≡ length out₀) × ((length memory ≡ length memory₀) × (length ports ≡ length ports₀)))
 
 abbrev μ-loop : tie.MeasureT-loop
-μ-loop text₀ out₀ memory₀ ports₀ left₀ session₀ held₀ reads₀ text out memory ports left session held reads = left
+μ-loop input text₀ out₀ memory₀ ports₀ left₀ session₀ held₀ reads₀ text out memory ports left session held reads = left
 
 pub take-turns-spec : {M : Type 1} → statement M
 take-turns-spec =
@@ -22,17 +22,10 @@ take-turns-spec =
     (λ c κs. search needs)
     (λ c. (refl, (refl, (refl, refl))))
     (λ c κs. search needs)
-    (λ c. search needs)
-    (λ c. omega arith)
-    (λ c. omega arith)
-    (λ c. (c .before .before .before .before .before .before .before .before .before .before .before .take-turn .kept .1 .1 .1 .0 ∙ c .before .before .before .before .before .before .before .before .before .before .before .before .before .before .before .before .before .loop .inv .0, (c .before .before .before .before .before .before .before .before .before .before .before .take-turn .kept .1 .1 .1 .1 .0 ∙ c .before .before .before .before .before .before .before .before .before .before .before .before .before .before .before .before .before .loop .inv .1 .0, (c .before .before .before .before .before .before .before .before .before .before .before .take-turn .kept .1 .1 .1 .1 .1 .0 ∙ c .before .before .before .before .before .before .before .before .before .before .before .before .before .before .before .before .before .loop .inv .1 .1 .0, c .before .before .before .before .before .before .before .before .before .before .before .take-turn .kept .1 .1 .1 .1 .1 .1 .0 ∙ c .before .before .before .before .before .before .before .before .before .before .before .before .before .before .before .before .before .loop .inv .1 .1 .1))))
-    (λ c. search needs)
     (λ c κs. search needs)
+    (λ c κs. omega arith)
     (λ c. omega arith)
-    (λ c. (c .before .before .before .before .before .before .before .before .last .kept .1 .1 .0 ∙ c .before .before .before .before .before .before .before .before .before .before .before .before .before .before .before .before .before .before .before .before .before .before .before .before .take-turn .kept .1 .1 .1 .0 ∙ c .before .before .before .before .before .before .before .before .before .before .before .before .before .before .before .before .before .before .before .before .before .before .before .before .before .before .before .before .before .before .loop .inv .0, (c .before .before .before .before .before .before .before .before .last .kept .1 .1 .1 .0 ∙ c .before .before .before .before .before .before .before .before .before .before .before .before .before .before .before .before .before .before .before .before .before .before .before .before .take-turn .kept .1 .1 .1 .1 .0 ∙ c .before .before .before .before .before .before .before .before .before .before .before .before .before .before .before .before .before .before .before .before .before .before .before .before .before .before .before .before .before .before .loop .inv .1 .0, (c .before .before .before .before .before .before .before .before .last .kept .1 .1 .1 .1 .0 ∙ c .before .before .before .before .before .before .before .before .before .before .before .before .before .before .before .before .before .before .before .before .before .before .before .before .take-turn .kept .1 .1 .1 .1 .1 .0 ∙ c .before .before .before .before .before .before .before .before .before .before .before .before .before .before .before .before .before .before .before .before .before .before .before .before .before .before .before .before .before .before .loop .inv .1 .1 .0, c .before .before .before .before .before .before .before .before .last .kept .1 .1 .1 .1 .1 .0 ∙ c .before .before .before .before .before .before .before .before .before .before .before .before .before .before .before .before .before .before .before .before .before .before .before .before .take-turn .kept .1 .1 .1 .1 .1 .1 .0 ∙ c .before .before .before .before .before .before .before .before .before .before .before .before .before .before .before .before .before .before .before .before .before .before .before .before .before .before .before .before .before .before .loop .inv .1 .1 .1))))
-    (λ c. search needs)
-    (λ c. omega arith)
-    (λ c. (c .before .before .before .before .before .before .before .before .before .before .before .take-turn .kept .1 .1 .1 .0 ∙ c .before .before .before .before .before .before .before .before .before .before .before .before .before .before .before .before .before .loop .inv .0, (c .before .before .before .before .before .before .before .before .before .before .before .take-turn .kept .1 .1 .1 .1 .0 ∙ c .before .before .before .before .before .before .before .before .before .before .before .before .before .before .before .before .before .loop .inv .1 .0, (c .before .before .before .before .before .before .before .before .before .before .before .take-turn .kept .1 .1 .1 .1 .1 .0 ∙ c .before .before .before .before .before .before .before .before .before .before .before .before .before .before .before .before .before .loop .inv .1 .1 .0, c .before .before .before .before .before .before .before .before .before .before .before .take-turn .kept .1 .1 .1 .1 .1 .1 .0 ∙ c .before .before .before .before .before .before .before .before .before .before .before .before .before .before .before .before .before .loop .inv .1 .1 .1))))
+    (λ c. (c .before .before .before .before .before .before .before .before .before .before .take-turn .kept .1 .1 .0 ∙ c .before .before .before .before .before .before .before .before .before .before .before .before .before .before .before .before .before .fill .kept .1 .0 ∙ c .before .before .before .before .before .before .before .before .before .before .before .before .before .before .before .before .before .before .before .before .loop .inv .0, (c .before .before .before .before .before .before .before .before .before .before .take-turn .kept .1 .1 .1 .0 ∙ c .before .before .before .before .before .before .before .before .before .before .before .before .before .before .before .before .before .before .before .before .loop .inv .1 .0, (c .before .before .before .before .before .before .before .before .before .before .take-turn .kept .1 .1 .1 .1 .0 ∙ c .before .before .before .before .before .before .before .before .before .before .before .before .before .before .before .before .before .before .before .before .loop .inv .1 .1 .0, c .before .before .before .before .before .before .before .before .before .before .take-turn .kept .1 .1 .1 .1 .1 .0 ∙ c .before .before .before .before .before .before .before .before .before .before .before .before .before .before .before .before .before .before .before .before .loop .inv .1 .1 .1))))
     (λ c. c .before .loop .inv .0)
     (λ c. c .before .loop .inv .1 .0)
     (λ c. c .before .loop .inv .1 .1 .0)

@@ -1,4 +1,0 @@
-// Runs the text program on examples/bad_unended.frames.
-fn main() {
-    program::run();
-}

@@ -1,4 +1,0 @@
-// Runs the text program on examples/ports.frames.
-fn main() {
-    program::run();
-}

@@ -1,4 +1,0 @@
-// Runs the text program on examples/printed.frames.
-fn main() {
-    program::run();
-}
