@@ -2,11 +2,11 @@
 ghost use Prim.Native.Nat.{_<_};
 ghost use mathlib.Core.Path.{_≡_};
 ghost use lib.ListN.{take};
+use feeding::feed;
+use feeding::finish;
 use libc::STDOUT_FILENO;
 use session::Session;
 use session::Stage;
-use session::feed;
-use session::finish;
 
 // A turn's end.
 struct Turn {

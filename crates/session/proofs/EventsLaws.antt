@@ -22,8 +22,8 @@ use Rattle.text.specs.Reading.{Taken, takenOff, nothingTaken, lineTaken}
 use Rattle.text.proofs.ReadingLaws.{taken-line, taken-none, none-taken, taken-used, rest-behind, answer-long}
 use Rattle.session.specs.World.{World, world, says, turns, saysBy, turnsBy, eventAnswer, afterEvent}
 use Rattle.session.specs.Feeding.{takes, linesFor, linesTaken, eventTaken}
-use Rattle.session.specs.declared.taking.EventLine.{EventLine}
-use Rattle.session.specs.declared.taking.TakenLines.{TakenLines}
+use Rattle.session.specs.declared.calls.EventLine.{EventLine}
+use Rattle.session.specs.declared.calls.TakenLines.{TakenLines}
 use Rattle.session.specs.declared.state.Stage.the-variants.{Running}
 use Rattle.session.proofs.LineLaws.{one-line}
 

@@ -21,8 +21,8 @@ use Rattle.text.proofs.DigitLaws.{both-of}
 use Rattle.text.proofs.ReadingLaws.{taken-rest, taken-used}
 use Rattle.session.specs.World.{World, says, turns}
 use Rattle.session.specs.Feeding.{takes, linesFor, linesTaken, feedRefusal, takenFed, heldIn, isEnded, endedText, endedAt}
-use Rattle.session.specs.declared.feeding.Fed.{Fed}
-use Rattle.session.specs.declared.taking.TakenLines.{TakenLines}
+use Rattle.session.specs.declared.calls.Fed.{Fed}
+use Rattle.session.specs.declared.calls.TakenLines.{TakenLines}
 use Rattle.session.proofs.SetupLaws.{LinesTaken}
 
 -- an accepted call has sound buffers and a sensible state

@@ -31,7 +31,7 @@ use Rattle.text.proofs.FrameLaws.{Framed, framed, Spoilt, spoilt, not-ended}
 use Rattle.text.proofs.ReadingLaws.{taken-line, taken-none, none-taken, printed-fits}
 use Rattle.session.specs.World.{World, world, says, turns, saysBy, turnsBy}
 use Rattle.session.specs.Feeding.{eventTaken}
-use Rattle.session.specs.declared.taking.EventLine.{EventLine}
+use Rattle.session.specs.declared.calls.EventLine.{EventLine}
 use Rattle.session.specs.declared.state.Stage.the-variants.{Running}
 
 -- exactly one line, where there is one

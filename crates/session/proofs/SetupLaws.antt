@@ -24,7 +24,7 @@ use Rattle.session.specs.Feeding.{takes, linesFor, linesTaken, worldOf}
 use Rattle.session.specs.declared.state.Stage.{Stage}
 use Rattle.session.specs.declared.state.Session.{Session}
 use Rattle.session.specs.declared.state.Stage.the-variants.{Awaiting, Ended}
-use Rattle.session.specs.declared.taking.TakenLines.{TakenLines}
+use Rattle.session.specs.declared.calls.TakenLines.{TakenLines}
 use Rattle.session.proofs.LineLaws.{one-line}
 
 -- the first line stands at the front

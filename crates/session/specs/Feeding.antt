@@ -17,9 +17,9 @@ use Rattle.session.specs.World.{World, says, turns}
 use Rattle.session.specs.declared.state.Stage.{Stage}
 use Rattle.session.specs.declared.state.Stage.the-variants.{Awaiting, Running, Ended}
 use Rattle.session.specs.declared.state.Session.{Session}
-use Rattle.session.specs.declared.feeding.Fed.{Fed}
-use Rattle.session.specs.declared.taking.TakenLines.{TakenLines}
-use Rattle.session.specs.declared.taking.EventLine.{EventLine}
+use Rattle.session.specs.declared.calls.Fed.{Fed}
+use Rattle.session.specs.declared.calls.TakenLines.{TakenLines}
+use Rattle.session.specs.declared.calls.EventLine.{EventLine}
 
 -- the lines that a call may answer, where there is room for so many answer lines: setup's alone, or events, or none once the run has ended
 unfoldable pub linesFor : Stage → ℕ → ℕ

@@ -1,12 +1,13 @@
-// A run of the program in calls, each with a piece of the text.
-mod feeding;
-mod holding;
+// A run of the program: its stages, what each line is answered and where it leads, and what a call that is given text tells.
+mod calls;
 mod setting;
 mod state;
-mod taking;
 
-pub use feeding::Fed;
-pub use feeding::feed;
-pub use feeding::finish;
+pub use calls::EventLine;
+pub use calls::Fed;
+pub use calls::TakenLines;
+pub use setting::set_up;
+pub use setting::setup_answer;
+pub use setting::stage_after;
 pub use state::Session;
 pub use state::Stage;

@@ -1,0 +1,7 @@
+// A run of the program in calls, each with a piece of the text.
+mod feeding;
+mod holding;
+mod taking;
+
+pub use feeding::feed;
+pub use feeding::finish;
