@@ -22,7 +22,7 @@ use Rattle.bus.specs.declared.state.Bus.{Bus}
 use Rattle.judgement.specs.Judge.{refusalOf}
 use Rattle.judgement.specs.Table.{Speaker, unlisted, contender, grantedCard, master, hasTurn, rowOf}
 use Rattle.judgement.specs.declared.event.Event.{Event}
-use Rattle.judgement.specs.declared.turns.Verdict.{Verdict}
+use Rattle.judgement.specs.declared.verdict.Verdict.{Verdict}
 use Rattle.events.specs.Machine.{Machine}
 use Rattle.events.specs.Cycles.{byteOf, movedBy, memoryLeft}
 use Rattle.events.specs.Answers.{bare, answerWith}

@@ -19,8 +19,8 @@ use Rattle.bus.specs.declared.state.Bus.{Bus}
 use Rattle.bus.proofs.Kept.{sense-kept, cards-and-pages-kept}
 use Rattle.judgement.specs.Table.{rowOf}
 use Rattle.judgement.specs.declared.event.Event.{Event}
-use Rattle.judgement.specs.declared.turns.Verdict.{Verdict}
-use Rattle.judgement.specs.declared.turns.Verdict.the-variants.{
+use Rattle.judgement.specs.declared.verdict.Verdict.{Verdict}
+use Rattle.judgement.specs.declared.verdict.Verdict.the-variants.{
   Refused,
   Request,
   Look,

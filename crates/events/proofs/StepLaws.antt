@@ -12,7 +12,7 @@ use Rattle.bus.specs.Sense.{makesSense}
 use Rattle.judgement.specs.Table.{rowOf}
 use Rattle.judgement.specs.Judge.{soundRefusal, refusalOf, numberOf, soundVerdict}
 use Rattle.judgement.specs.declared.event.Event.{Event}
-use Rattle.judgement.specs.declared.turns.Verdict.{Verdict}
+use Rattle.judgement.specs.declared.verdict.Verdict.{Verdict}
 use Rattle.judgement.proofs.Passed.{verdict-number, verdict-step, sound-call}
 use Rattle.events.specs.Machine.{Machine}
 use Rattle.events.specs.Answers.{refusedWith}

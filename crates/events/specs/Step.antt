@@ -9,8 +9,8 @@ use Rattle.bus.specs.declared.state.Bus.{Bus}
 use Rattle.judgement.specs.Table.{rowOf}
 use Rattle.judgement.specs.Judge.{soundRefusal, refusalOf}
 use Rattle.judgement.specs.declared.event.Event.{Event}
-use Rattle.judgement.specs.declared.turns.Verdict.{Verdict}
-use Rattle.judgement.specs.declared.turns.Verdict.the-variants.{
+use Rattle.judgement.specs.declared.verdict.Verdict.{Verdict}
+use Rattle.judgement.specs.declared.verdict.Verdict.the-variants.{
   Refused,
   Request,
   Look,

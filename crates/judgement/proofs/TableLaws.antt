@@ -16,7 +16,7 @@ use Rattle.phases.specs.Control.{allowsCycles}
 use Rattle.judgement.specs.Table.{Row, row, master, rowOf, rowIn, noRow, listsSpeaker, listsAddress, listsDatum}
 use Rattle.judgement.specs.Refusals.{pageAt}
 use Rattle.judgement.specs.Promises.{EachKindHasItsRow}
-use Rattle.judgement.specs.declared.turns.Verdict.the-variants.{Cycle}
+use Rattle.judgement.specs.declared.verdict.Verdict.the-variants.{Cycle}
 
 pub speaker-column : (kind : ℕ) → kind < 256 → (eqb kind 0x02 || leb 0x04 kind && leb kind 0x0E) ≡ listsSpeaker kind
 unfolding allBelow rowIn

@@ -19,8 +19,8 @@ use Rattle.judgement.specs.Table.{permanentMaster, hasTurn, masterOf, Ro
 use Rattle.judgement.specs.Refusals.{isMalformed, namesNobody, namesUnfitted, isWrongPhase, isNotItsTurn, isUnsettled, isOddWord, isAbsent}
 use Rattle.judgement.specs.Judge.{soundRefusal, numberOf, turnOf, soundVerdict, cycleTurn}
 use Rattle.judgement.specs.declared.event.Event.{Event}
-use Rattle.judgement.specs.declared.turns.Verdict.{Verdict}
-use Rattle.judgement.specs.declared.turns.Verdict.the-variants.{Refused, Acknowledge, Cycle}
+use Rattle.judgement.specs.declared.verdict.Verdict.{Verdict}
+use Rattle.judgement.specs.declared.verdict.Verdict.the-variants.{Refused, Acknowledge, Cycle}
 use Rattle.judgement.proofs.TableLaws.{CycleRow, cycle-row}
 
 -- a number where a test holds, and else a later one: the verdict is that refusal, or the later verdict

@@ -20,8 +20,8 @@ use Rattle.judgement.specs.Refusals.{
   isAbsent,
 }
 use Rattle.judgement.specs.declared.event.Event.{Event}
-use Rattle.judgement.specs.declared.turns.Verdict.{Verdict}
-use Rattle.judgement.specs.declared.turns.Verdict.the-variants.{
+use Rattle.judgement.specs.declared.verdict.Verdict.{Verdict}
+use Rattle.judgement.specs.declared.verdict.Verdict.the-variants.{
   Refused,
   Request,
   Look,

@@ -10,8 +10,8 @@ use Rattle.bus.specs.Refusal as Refusal
 use Rattle.cards.specs.Cards.{cardIn}
 use Rattle.bus.specs.declared.state.Bus.{Bus}
 use Rattle.judgement.specs.declared.event.Event.{Event}
-use Rattle.judgement.specs.declared.turns.Verdict.{Verdict}
-use Rattle.judgement.specs.declared.turns.Verdict.the-variants.{
+use Rattle.judgement.specs.declared.verdict.Verdict.{Verdict}
+use Rattle.judgement.specs.declared.verdict.Verdict.the-variants.{
   Refused,
   Request,
   Look,

@@ -1,12 +1,7 @@
-// What is judged of an event before anything is done: its fields, its phase, its speaker, the lines and the address.
-mod columns;
+// The event, and the verdict on it: a refusal, or the step that it takes.
 mod event;
-mod reasons;
-mod turns;
+mod verdict;
 
 pub use event::Event;
 pub use event::PERMANENT_MASTER;
-pub use reasons::page_at;
-pub use turns::Verdict;
-pub use turns::judge;
-pub use turns::number_of;
+pub use verdict::Verdict;

@@ -14,7 +14,7 @@ use Rattle.bus.proofs.Granting.{looks-drive}
 use Rattle.bus.proofs.LookRuns.{looks-append as bus-looks-append}
 use Rattle.judgement.specs.Table.{Row, rowOf, rowIn}
 use Rattle.judgement.specs.declared.event.Event.{Event}
-use Rattle.judgement.specs.declared.turns.Verdict.{Verdict}
+use Rattle.judgement.specs.declared.verdict.Verdict.{Verdict}
 use Rattle.judgement.proofs.TableLaws.{each-kind, cycle-row, no-row}
 use Rattle.events.specs.Machine.{Machine}
 use Rattle.events.specs.Step.{stepBy, refusalIn}

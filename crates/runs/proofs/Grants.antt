@@ -25,7 +25,7 @@ use Rattle.bus.proofs.SetUp.{setup-makes-sense}
 use Rattle.bus.proofs.Granting.{settled-show-it}
 use Rattle.judgement.specs.Table.{Row, rowOf, rowIn}
 use Rattle.judgement.specs.declared.event.Event.{Event}
-use Rattle.judgement.specs.declared.turns.Verdict.{Verdict}
+use Rattle.judgement.specs.declared.verdict.Verdict.{Verdict}
 use Rattle.judgement.proofs.TableLaws.{each-kind, cycle-row, no-row}
 use Rattle.events.specs.Machine.{Machine}
 use Rattle.events.specs.Step.{stepBy, refusalIn, after}

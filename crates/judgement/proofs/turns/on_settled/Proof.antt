@@ -1,6 +1,0 @@
--- By whether the lines are settled.
-use Rattle.judgement.proofs.turns.on_settled.Statement.{statement}
-use Rattle.judgement.proofs.turns.on_settled.Tie as tie
-
-pub on-settled-spec : {M : Type 1} → statement M
-on-settled-spec = tie.close (tie.spec (λ c. rw (c .if1 .taken)) (λ c. rw (c .if1 .left)))
