@@ -18,7 +18,7 @@ use Rattle.events.specs.Machine.{Machine}
 use Rattle.events.specs.Answers.{refusedWith}
 use Rattle.events.specs.Step.{stepBy, takenBy, answerBy, stepped, after, answerTo, soundAfter, soundAnswer}
 use Rattle.events.specs.declared.answers.Answer.{Answer}
-use Rattle.events.specs.declared.steps.Stepped.{Stepped}
+use Rattle.events.specs.declared.answers.Stepped.{Stepped}
 
 -- what a call hands back and leaves, given what it should have
 abbrev pub Hands : Machine → Event → (Machine → Event → Machine) → (Machine → Event → Answer) → Stepped → List ℕ → List ℕ → Type 0

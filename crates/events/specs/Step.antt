@@ -26,7 +26,7 @@ use Rattle.events.specs.Machine.{Machine, machine}
 use Rattle.events.specs.Cycles.{isSixteen, movedBy, memoryLeft, portsLeft}
 use Rattle.events.specs.Answers.{answerWith, signalsWith, refusedWith}
 use Rattle.events.specs.declared.answers.Answer.{Answer}
-use Rattle.events.specs.declared.steps.Stepped.{Stepped}
+use Rattle.events.specs.declared.answers.Stepped.{Stepped}
 
 -- ---- What each verdict does to the bus
 

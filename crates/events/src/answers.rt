@@ -19,6 +19,12 @@ pub struct Answer {
     pub datum: u16,
 }
 
+// The state after an event, and what is answered to it.
+pub struct Stepped {
+    pub bus: Bus,
+    pub answer: Answer,
+}
+
 // What the bus shows, and beside it what a cycle had on it.
 pub fn answer_with(refusal: u8, bus: Bus, signals: u8, status: u8, moved: Moved) -> Answer
     ensures { λ r. ⌜ r ≡ answerWith refusal bus signals status moved ⌝ }

@@ -15,7 +15,6 @@ ghost use Rattle.session.specs.declared.state.Stage.the-variants.{Awaiting, Run
 use bus::Bus;
 use bus::numbers::*;
 use events::bare;
-use events::sound_step;
 use session::EventLine;
 use session::Session;
 use session::Stage;
@@ -23,6 +22,7 @@ use session::TakenLines;
 use session::set_up;
 use session::setup_answer;
 use session::stage_after;
+use stepping::sound_step;
 use text::ANSWER_LENGTH;
 use text::EVENT_DIGITS;
 use text::Line;

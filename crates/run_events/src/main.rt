@@ -2,8 +2,8 @@
 // its marked table and its table of refusals.
 use bus::Bus;
 use events::Answer;
-use events::step;
 use judgement::Event;
+use stepping::step;
 
 const DIGITS: [u8; 16] = [
     48,

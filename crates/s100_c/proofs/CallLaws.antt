@@ -19,7 +19,7 @@ use Rattle.judgement.specs.declared.event.Event.{Event}
 use Rattle.events.specs.Machine.{Machine, machine}
 use Rattle.events.specs.Step.{refusalIn, after, answerTo, stepped}
 use Rattle.events.specs.declared.answers.Answer.{Answer}
-use Rattle.events.specs.declared.steps.Stepped.{Stepped}
+use Rattle.events.specs.declared.answers.Stepped.{Stepped}
 use Rattle.events.proofs.Refused.{refused-answers}
 use Rattle.s100_c.specs.Layout.{sixteenAt, stateSize, isState, stateBytes, busIn, answerSize, isAnswer, answerBytes}
 use Rattle.s100_c.specs.Calls.{wrongLength, setupFits, Lent, lent, machineIn, placesFit, stepFits, stepAnswers, written, stepLeaves, noField, isSensible}

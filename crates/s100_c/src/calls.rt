@@ -24,8 +24,8 @@ use crate::layout::put_bus;
 use crate::layout::sixteen_at;
 use bus::Bus;
 use bus::numbers::*;
-use events::step;
 use judgement::Event;
+use stepping::step;
 
 // A buffer of this face has another length than it must have.
 const WRONG_LENGTH: u8 = 0xFF;

@@ -17,7 +17,7 @@ use Rattle.events.specs.Machine.{Machine, machine}
 use Rattle.events.specs.Answers.{bare}
 use Rattle.events.specs.Step.{after, answerTo, soundAfter, soundAnswer, stepped}
 use Rattle.events.specs.declared.answers.Answer.{Answer}
-use Rattle.events.specs.declared.steps.Stepped.{Stepped}
+use Rattle.events.specs.declared.answers.Stepped.{Stepped}
 use Rattle.events.proofs.Refused.{sound-step-is-the-step}
 use Rattle.words.specs.Among.{everyListed}
 use Rattle.text.specs.Digits.{isDigit}

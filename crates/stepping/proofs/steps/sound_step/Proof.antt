@@ -1,10 +1,10 @@
 -- By the number of the verdict.
 use denote.Ref.{now}
 use borrow.Author.Needs.{needs}
 use Rattle.events.specs.Machine.{machine}
 use Rattle.events.proofs.StepLaws.{sound-taken, sound-refused}
-use Rattle.events.proofs.steps.sound_step.Statement.{statement}
-use Rattle.events.proofs.steps.sound_step.Tie as tie
+use Rattle.stepping.proofs.steps.sound_step.Statement.{statement}
+use Rattle.stepping.proofs.steps.sound_step.Tie as tie
 
 pub sound-step-spec : {M : Type 1} → statement M
 sound-step-spec =

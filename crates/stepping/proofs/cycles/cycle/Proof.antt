@@ -8,9 +8,9 @@ use lib.Dec.{eqb, lit<, lit≤}
 use borrow.Author.Needs.{needs}
 use borrow.Author.Tests.{ne-eqb}
 use Rattle.words.specs.Among.{beside}
 use Rattle.events.proofs.CycleLaws.{byte-is-read, no-cycle}
-use Rattle.events.proofs.cycles.cycle.Statement.{statement}
-use Rattle.events.proofs.cycles.cycle.Tie as tie
+use Rattle.stepping.proofs.cycles.cycle.Statement.{statement}
+use Rattle.stepping.proofs.cycles.cycle.Tie as tie
 
 pub cycle-spec : {M : Type 1} → statement M
 unfolding beside

@@ -1,7 +1,7 @@
 -- By the verdict.
 use borrow.Author.Needs.{needs}
-use Rattle.events.proofs.steps.step_by.Statement.{statement}
-use Rattle.events.proofs.steps.step_by.Tie as tie
+use Rattle.stepping.proofs.steps.step_by.Statement.{statement}
+use Rattle.stepping.proofs.steps.step_by.Tie as tie
 
 pub step-by-spec : {M : Type 1} → statement M
 step-by-spec =

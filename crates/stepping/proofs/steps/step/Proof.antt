@@ -2,10 +2,10 @@
 use mathlib.Core.Path.{sym, _∙_}
 use denote.Ref.{now}
 use borrow.Author.Needs.{needs}
 use Rattle.events.specs.Machine.{machine}
 use Rattle.events.proofs.StepLaws.{call-sound, call-senseless, call-misfit}
-use Rattle.events.proofs.steps.step.Statement.{statement}
-use Rattle.events.proofs.steps.step.Tie as tie
+use Rattle.stepping.proofs.steps.step.Statement.{statement}
+use Rattle.stepping.proofs.steps.step.Tie as tie
 
 pub step-spec : {M : Type 1} → statement M
 step-spec =

@@ -1,7 +1,7 @@
 -- From what the calls ensure.
 use borrow.Author.Needs.{needs}
-use Rattle.events.proofs.steps.accepted.Statement.{statement}
-use Rattle.events.proofs.steps.accepted.Tie as tie
+use Rattle.stepping.proofs.steps.accepted.Statement.{statement}
+use Rattle.stepping.proofs.steps.accepted.Tie as tie
 
 pub accepted-spec : {M : Type 1} → statement M
 accepted-spec =

@@ -3,9 +3,9 @@ use mathlib.Core.Path.{ap}
 use borrow.Author.Needs.{needs}
 use borrow.Author.Tests.{le-leb, lt-leb}
 use Rattle.words.proofs.TestLaws.{then-pick, else-pick}
 use Rattle.events.specs.Step.{stepped}
-use Rattle.events.proofs.steps.refused.Statement.{statement}
-use Rattle.events.proofs.steps.refused.Tie as tie
+use Rattle.stepping.proofs.steps.refused.Statement.{statement}
+use Rattle.stepping.proofs.steps.refused.Tie as tie
 
 pub refused-spec : {M : Type 1} → statement M
 refused-spec =

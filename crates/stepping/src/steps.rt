@@ -1,15 +1,16 @@
 // The step of an event.
 ghost use mathlib.Core.Path.{_≡_};
 ghost use Rattle.events.specs.Answers.{refusedWith};
 ghost use Rattle.events.specs.Machine.{machine};
 ghost use Rattle.events.specs.Step.{stepBy, takenBy, answerBy, stepped, after, answerTo, soundAfter, soundAnswer};
-use crate::answers::Answer;
-use crate::answers::answer_with;
-use crate::answers::bare;
-use crate::answers::signals_with;
 use crate::cycles::cycle;
 use bus::Bus;
 use bus::numbers::*;
+use events::Answer;
+use events::Stepped;
+use events::answer_with;
+use events::bare;
+use events::signals_with;
 use judgement::Event;
 use judgement::Verdict;
 use judging::judge;
@@ -23,12 +24,6 @@ const NOTHING: Moved = Moved {
     datum: 0,
     cycles: 0,
 };
-
-// The state after an event, and what is answered to it.
-pub struct Stepped {
-    pub bus: Bus,
-    pub answer: Answer,
-}
 
 // What the step does to the bus; a cycle leaves it as it is.
 fn step_by(verdict: Verdict, bus: Bus, event: Event) -> Bus

@@ -1,0 +1,6 @@
+// Events on a bus with its memory and its ports: each is judged, and either refused or its step taken.
+mod cycles;
+mod steps;
+
+pub use steps::sound_step;
+pub use steps::step;
