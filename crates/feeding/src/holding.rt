@@ -5,8 +5,8 @@ ghost use Prim.Native.Nat.{_+_, _≤_};
 ghost use lib.ListN.{length, take, drop};
 ghost use lib.Seq.{paste};
 ghost use Rattle.text.specs.Reading.{heldOf};
+use reading::line_end;
 use text::SETUP_DIGITS;
-use text::line_end;
 
 // One byte more than the longest right line has.
 const HELD: usize = SETUP_DIGITS + 1;

@@ -15,6 +15,9 @@ ghost use Rattle.session.specs.declared.state.Stage.the-variants.{Awaiting, Run
 use bus::Bus;
 use bus::numbers::*;
 use events::bare;
+use printing::put_answer;
+use reading::line_end;
+use reading::next_line;
 use session::EventLine;
 use session::Session;
 use session::Stage;
@@ -26,9 +29,6 @@ use stepping::sound_step;
 use text::ANSWER_LENGTH;
 use text::EVENT_DIGITS;
 use text::Line;
-use text::line_end;
-use text::next_line;
-use text::put_answer;
 
 // An event line with its newline.
 const EVENT_BYTES: usize = EVENT_DIGITS + 1;

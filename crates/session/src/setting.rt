@@ -12,8 +12,8 @@ use events::answer_with;
 use events::bare;
 use memory::Moved;
 use phases::signals;
+use reading::setup_line;
 use text::SetupLine;
-use text::setup_line;
 
 pub fn set_up(line: &[u8]) -> SetupAnswer
     ensures { λ r. ⌜ r ≡ setUpBy (setupIn (now (line .entry))) ⌝ }

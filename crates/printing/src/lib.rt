@@ -1,0 +1,4 @@
+// The answer line, written.
+mod printing;
+
+pub use printing::put_answer;
