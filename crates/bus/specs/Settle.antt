@@ -1,15 +1,15 @@
 -- Settle: looks in list order until the lines are settled (01, "Looking and settling", "Refusals and their order").
 use Prim.Native.Nat.{ℕ, suc}
-use mathlib.Core.Bool.{Bool, cond, not, _||_}
+use mathlib.Core.Bool.{Bool, cond, not}
 use mathlib.Core.List.{List, [], _∷_, _++_}
-use lib.Dec.{eqb, leb, ltb}
+use lib.Dec.{eqb, leb}
 use lib.ListN.{length, take}
 use Rattle.words.specs.Below.{allBelow}
 use Rattle.words.specs.Among.{everyListed}
 use Rattle.words.specs.First.{Reason, reason, firstOf, leastBelow}
 use Rattle.phases.specs.Phase as Phase
 use Rattle.bus.specs.Refusal as Refusal
-use Rattle.cards.specs.Cards.{cardIn}
+use Rattle.cards.specs.Cards.{cardsWithin}
 use Rattle.bus.specs.State.{isSettled}
 use Rattle.bus.specs.Sense.{makesSense}
 use Rattle.bus.specs.Steps.{afterLooksOf}
@@ -39,10 +39,6 @@ isSenseless bus = not (makesSense bus)
 -- 03: a number above 15
 abbrev pub namesNoCard : List ℕ → Bool
 namesNoCard cards = not (everyListed (λ card. leb card 15) cards)
-
--- each card in the list is in the set; a number above 15 is no card, and not asked about
-abbrev pub cardsWithin : ℕ → List ℕ → Bool
-cardsWithin set cards = everyListed (λ card. ltb 15 card || cardIn set card) cards
 
 -- 05: a card that isn't fitted
 abbrev pub namesUnfitted : Bus → List ℕ → Bool

@@ -1,5 +1,4 @@
-// The bus as a value: its state, what each method does to it, and settle.
-mod lists;
+// The bus as a value: its state, and what each method does to it.
 pub mod numbers;
 mod priority;
 mod settle;

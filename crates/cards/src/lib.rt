@@ -5,6 +5,11 @@ ghost use lib.Dec.{eqb};
 ghost use Rattle.lines.specs.Look.{look};
 ghost use Rattle.cards.specs.Cards.{cardIn, someCard, isWithin};
 
+mod lists;
+
+pub use lists::all_at_most;
+pub use lists::all_in;
+
 // ---- Sets: a number with bit n for card n
 
 pub fn card_in(cards: u16, n: u8) -> bool

@@ -11,6 +11,7 @@ use crate::holding::hold;
 use crate::taking::take_lines;
 use bus::Bus;
 use bus::numbers::*;
+use sense::makes_sense;
 use session::Fed;
 use session::Session;
 use text::NEWLINE;
@@ -84,7 +85,7 @@ fn feed_refusal(bus: Bus, text: &[u8], filled: usize, memory: &[u8], ports: &[u8
 {
     if !((memory.len() == 0x10000) & (ports.len() == 0x100)) | (text.len() < filled) {
         WRONG_BUFFERS
-    } else if bus.makes_sense() {
+    } else if makes_sense(bus) {
         ACCEPTED
     } else {
         SENSELESS

@@ -3,6 +3,9 @@ use bus::Bus;
 use bus::Settlement;
 use memory::Moved;
 use phases::numbers::*;
+use sense::makes_sense;
+use sense::setup;
+use settling::settle;
 
 fn main() {
     weights();
@@ -153,7 +156,7 @@ fn hand_over_and_back(bus: Bus) -> Bus {
 
 fn printed_run() {
     title(b"the printed run: phase, granted, lines, signals");
-    let made = Bus::setup(0x000A, [1, 2, 0, 0, 0, 0, 0, 0, 0, 0, 0, 0, 0, 0, 0, 0]);
+    let made = setup(0x000A, [1, 2, 0, 0, 0, 0, 0, 0, 0, 0, 0, 0, 0, 0, 0, 0]);
     put(made.answer);
     end_line();
     let b = show_bus(made.bus);
@@ -173,12 +176,12 @@ fn sense(code: u8, phase: u8, contenders: u16, granted: u8) {
         driven: [0; 16],
         granted: granted,
     };
-    put(if bus.makes_sense() { 1 } else { 0 });
+    put(if makes_sense(bus) { 1 } else { 0 });
 }
 
 fn setups_and_senses() {
     title(b"setup with a page code of 3: answer, then fitted, phase, granted, lines, signals");
-    let made = Bus::setup(0x000A, [1, 2, 0, 0, 0, 0, 0, 0, 0, 0, 0, 0, 0, 0, 0, 3]);
+    let made = setup(0x000A, [1, 2, 0, 0, 0, 0, 0, 0, 0, 0, 0, 0, 0, 0, 0, 3]);
     put(made.answer);
     end_line();
     put_word(made.bus.fitted);
@@ -200,7 +203,7 @@ fn setups_and_senses() {
 
 // Cards 1 and 3 are fitted, and card 3 is granted.
 fn granted_three() -> Bus {
-    Bus::setup(0x000A, [1; 16])
+    setup(0x000A, [1; 16])
         .bus
         .request(0x0008)
         .look(3)
@@ -223,7 +226,7 @@ fn out_of_turn() {
 // ---- The looks and settles that 01 marks for proof, M1 to M8
 
 fn contending(fitted: u16, cards: u16) -> Bus {
-    Bus::setup(fitted, [1; 16]).bus.request(cards)
+    setup(fitted, [1; 16]).bus.request(cards)
 }
 
 fn round(bus: Bus, first: u8, second: u8, third: u8) -> Bus {
@@ -260,10 +263,13 @@ fn show_settlement(s: Settlement) {
 
 fn settles() {
     title(b"settle: answer, looks, lines");
-    show_settlement(contending(0xFFFF, 0x0610).settle(&[4, 9, 10, 9, 10, 4, 9, 10, 4, 9, 10, 4]));
-    show_settlement(contending(0xFFFF, 0x0610).settle(&[4, 9, 10, 9, 10, 4, 9, 10, 4]));
-    show_settlement(contending(0x0001, 0x0001).settle(&[0]));
-    show_settlement(contending(0x0002, 0x0002).settle(&[1]));
+    show_settlement(settle(
+        contending(0xFFFF, 0x0610),
+        &[4, 9, 10, 9, 10, 4, 9, 10, 4, 9, 10, 4],
+    ));
+    show_settlement(settle(contending(0xFFFF, 0x0610), &[4, 9, 10, 9, 10, 4, 9, 10, 4]));
+    show_settlement(settle(contending(0x0001, 0x0001), &[0]));
+    show_settlement(settle(contending(0x0002, 0x0002), &[1]));
 }
 
 // Card 0's lines are at 0, and it is granted all the same. The others are refused: 02, 03, 05, 06 and 07, with the state as it was.
@@ -278,11 +284,11 @@ fn refused_settles() {
         driven: [0; 16],
         granted: 0xFF,
     };
-    show_settlement(senseless.settle(&[16]));
-    show_settlement(contending(0x0003, 0x0002).settle(&[2, 16]));
-    show_settlement(contending(0x0003, 0x0002).settle(&[1, 2]));
-    show_settlement(granted_three().settle(&[1]));
-    show_settlement(contending(0x0003, 0x0002).settle(&[1, 0]));
+    show_settlement(settle(senseless, &[16]));
+    show_settlement(settle(contending(0x0003, 0x0002), &[2, 16]));
+    show_settlement(settle(contending(0x0003, 0x0002), &[1, 2]));
+    show_settlement(settle(granted_three(), &[1]));
+    show_settlement(settle(contending(0x0003, 0x0002), &[1, 0]));
 }
 
 // ---- Bytes, and words over pages of either width

@@ -3,6 +3,7 @@
 use bus::Bus;
 use events::Answer;
 use judgement::Event;
+use sense::setup;
 use stepping::step;
 
 const DIGITS: [u8; 16] = [
@@ -79,11 +80,11 @@ fn title(text: &[u8]) {
 fn main() {
     let mut memory = [0u8; 65536];
     let mut ports = [0u8; 256];
-    let given = Bus::setup(0x000A, [1, 2, 0, 0, 0, 0, 0, 0, 0, 0, 0, 0, 0, 0, 0, 0]);
+    let given = setup(0x000A, [1, 2, 0, 0, 0, 0, 0, 0, 0, 0, 0, 0, 0, 0, 0, 0]);
     let free = printed(given.bus, &mut memory, &mut ports);
     refused(free, &mut memory, &mut ports);
     cycles(free, &mut memory, &mut ports);
-    let full = Bus::setup(0xFFFF, [1; 16]);
+    let full = setup(0xFFFF, [1; 16]);
     let granted = four_nine_ten(full.bus, &mut memory, &mut ports);
     handing(granted, &mut memory, &mut ports);
     alone(full.bus, &mut memory, &mut ports);

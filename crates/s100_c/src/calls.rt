@@ -25,6 +25,8 @@ use crate::layout::sixteen_at;
 use bus::Bus;
 use bus::numbers::*;
 use judgement::Event;
+use sense::setup;
+use settling::settle;
 use stepping::step;
 
 // A buffer of this face has another length than it must have.
@@ -36,7 +38,7 @@ pub extern "C" fn s100_setup(fitted: u16, pages: &[u8], state: &mut [u8]) -> u8
     ensures leaves { λ _. ⌜ now (state .exit) ≡ setupLeaves fitted (now (pages .entry)) (now (state .entry)) ⌝ }
 {
     if (pages.len() == 16) & (state.len() == STATE_SIZE) {
-        let set = Bus::setup(fitted, sixteen_at(pages, 0));
+        let set = setup(fitted, sixteen_at(pages, 0));
         let left = set.bus;
         put_bus(left, state);
         set.answer
@@ -105,7 +107,7 @@ pub extern "C" fn s100_settle(state: &mut [u8], cards: &[u8], looks: &mut usize)
     ensures counts { λ _. ⌜ now (looks .exit) ≡ settleCounts (now (state .entry)) (now (cards .entry)) (now (looks .entry)) ⌝ }
 {
     if state.len() == STATE_SIZE {
-        let settled = bus_in(state).settle(cards);
+        let settled = settle(bus_in(state), cards);
         let left = settled.bus;
         put_bus(left, state);
         *looks = settled.looks;

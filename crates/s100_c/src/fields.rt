@@ -16,6 +16,7 @@ use crate::layout::PHASE_AT;
 use crate::layout::STATE_SIZE;
 use crate::layout::bus_in;
 use crate::layout::word_at;
+use sense::makes_sense;
 
 // The buffer isn't as long as a state, or there is no such page or card.
 const NO_FIELD: u32 = 0xFFFFFFFF;
@@ -78,7 +79,7 @@ pub extern "C" fn s100_makes_sense(state: &[u8]) -> bool
     ensures { λ r. ⌜ r ≡ isSensible (now (state .entry)) ⌝ }
 {
     if state.len() == STATE_SIZE {
-        bus_in(state).makes_sense()
+        makes_sense(bus_in(state))
     } else {
         false
     }

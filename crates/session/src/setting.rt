@@ -13,6 +13,7 @@ use events::bare;
 use memory::Moved;
 use phases::signals;
 use reading::setup_line;
+use sense::setup;
 use text::SetupLine;
 
 pub fn set_up(line: &[u8]) -> SetupAnswer
@@ -21,7 +22,7 @@ pub fn set_up(line: &[u8]) -> SetupAnswer
     let given = setup_line(line);
     let pages = given.pages;
     if given.refusal == ACCEPTED {
-        Bus::setup(given.fitted, pages)
+        setup(given.fitted, pages)
     } else {
         refused(given.refusal)
     }
@@ -30,7 +31,7 @@ pub fn set_up(line: &[u8]) -> SetupAnswer
 fn refused(refusal: u8) -> SetupAnswer
     ensures { λ r. ⌜ r ≡ refusedAs refusal ⌝ }
 {
-    let empty = Bus::setup(0, [0; 16]);
+    let empty = setup(0, [0; 16]);
     let bus = empty.bus;
     SetupAnswer {
         answer: refusal,

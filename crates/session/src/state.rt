@@ -2,6 +2,7 @@
 ghost use mathlib.Core.Path.{_≡_};
 ghost use Rattle.session.specs.World.{fresh};
 use bus::Bus;
+use sense::setup;
 
 pub enum Stage {
     // The setup line is still to come.
@@ -21,7 +22,7 @@ impl Session {
     pub fn fresh() -> Session
         ensures { λ r. ⌜ r ≡ fresh ⌝ }
     {
-        let empty = Bus::setup(0, [0; 16]);
+        let empty = setup(0, [0; 16]);
         let bus = empty.bus;
         Session {
             stage: Stage::Awaiting,

@@ -19,6 +19,7 @@ use judging::page_at;
 use memory::Moved;
 use phases::signals;
 use phases::status;
+use sense::makes_sense;
 
 const NOTHING: Moved = Moved {
     datum: 0,
@@ -88,7 +89,7 @@ pub fn step(bus: Bus, event: Event, memory: &mut [u8], ports: &mut [u8]) -> Step
     ensures ports_left { λ _. ⌜ now (ports .exit) ≡ after (machine bus (now (memory .entry)) (now (ports .entry))) event .ports ⌝ }
 {
     if (memory.len() == 0x10000) & (ports.len() == 0x100) {
-        if bus.makes_sense() {
+        if makes_sense(bus) {
             sound_step(bus, event, memory, ports)
         } else {
             refused(SENSELESS, bus)

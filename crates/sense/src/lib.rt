@@ -1,0 +1,84 @@
+// Whether a state makes sense, and the setup that begins with one that does.
+ghost use mathlib.Core.Path.{_≡_};
+ghost use Rattle.bus.specs.Sense.{contentionFits, drivingFits, grantFits, makesSense};
+ghost use Rattle.bus.specs.State.{freeBus};
+ghost use Rattle.bus.specs.Setup.{setupOf};
+use bus::Bus;
+use bus::SetupAnswer;
+use bus::numbers::*;
+use cards::all_at_most;
+use cards::card_in;
+use cards::counted;
+use cards::is_within;
+use cards::some_card;
+use phases::numbers::*;
+
+// The bus that comes with a refusal is an empty chassis.
+pub fn setup(fitted: u16, pages: [u8; 16]) -> SetupAnswer
+    ensures { λ r. ⌜ r ≡ setupOf fitted pages ⌝ }
+{
+    if all_at_most(2, &pages) {
+        SetupAnswer {
+            answer: ACCEPTED,
+            bus: freed(fitted, pages),
+        }
+    } else {
+        SetupAnswer {
+            answer: BAD_PAGE,
+            bus: freed(0, [0; 16]),
+        }
+    }
+}
+
+fn freed(fitted: u16, pages: [u8; 16]) -> Bus
+    ensures { λ r. ⌜ r ≡ freeBus fitted pages ⌝ }
+{
+    Bus {
+        fitted: fitted,
+        pages: pages,
+        phase: FREE,
+        contenders: 0,
+        driven: [0; 16],
+        granted: NOBODY,
+    }
+}
+
+pub fn makes_sense(bus: Bus) -> bool
+    ensures { λ r. ⌜ r ≡ makesSense bus ⌝ }
+{
+    let pages = bus.pages;
+    let driven = bus.driven;
+    all_at_most(2, &pages)
+        & (bus.phase <= TRANSFER_TWO)
+        & contention_fits(bus)
+        & driving_fits(bus.contenders, driven)
+        & grant_fits(bus)
+}
+
+fn contention_fits(bus: Bus) -> bool
+    ensures { λ r. ⌜ r ≡ contentionFits bus ⌝ }
+{
+    let arbitrates = bus.phase == ARBITRATION;
+    let some = some_card(bus.contenders);
+    is_within(bus.contenders, bus.fitted) & (!arbitrates | some) & (arbitrates | !some)
+}
+
+fn grant_fits(bus: Bus) -> bool
+    ensures { λ r. ⌜ r ≡ grantFits bus ⌝ }
+{
+    let held = (GRANTED <= bus.phase) & (bus.phase <= TRANSFER_TWO);
+    (!held | card_in(bus.fitted, bus.granted)) & (held | (bus.granted == NOBODY))
+}
+
+// The other cards drive nothing, and the contenders no more than four lines show.
+fn driving_fits(contenders: u16, driven: [u8; 16]) -> bool
+    ensures { λ r. ⌜ r ≡ drivingFits contenders driven ⌝ }
+{
+    let mut fits = true;
+    let mut n: u8 = 0;
+    while n < 16 {
+        fits = fits & (driven[n as usize] <= counted(contenders, n, 15));
+        n += 1;
+    }
+    fits
+}
