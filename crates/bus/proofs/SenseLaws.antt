@@ -9,7 +9,7 @@ use native.Mathlib.Omega.{arith}
 use lib.Dec.{eqb, leb}
 use lib.ListN.{length, getD}
 use borrow.Author.Tests.{leb-true, le-leb, lt-leb, eqb-true, eqb-false, eq-eqb, ne-eqb, not-true}
-use Rattle.words.proofs.TestLaws.{true-or-false, all-three, then-of, else-of, of-then, of-else}
+use Rattle.words.proofs.TestLaws.{all-three, then-chosen, else-chosen, choice-of}
 use Rattle.words.proofs.BelowLaws.{all-at, all-of}
 use Rattle.words.proofs.ListLaws.{every-at, every-of}
 use Rattle.phases.specs.Phase as Phase
@@ -48,9 +48,10 @@ module _ (bus : Bus) where
       and-eq-true-iff (hasSixteen bus && pagesKnown (bus .pages) && leb (bus .phase) 5) (contentionFits bus) .0 (last .0) in
       (all-three (hasSixteen bus) (pagesKnown (bus .pages)) (leb (bus .phase) 5) (first .0), (first .1, last .1))
 
-  drives : makesSense bus ≡ true → (n : ℕ) → n < 16 → getD (bus .driven) n 0 ≤ cond (cardIn (bus .contenders) n) 15 0
+  drives : makesSense bus ≡ true → (n : ℕ) → n < 16
+      → cond (cardIn (bus .contenders) n) (leb (getD (bus .driven) n 0) 15) (eqb (getD (bus .driven) n 0) 0) ≡ true
   unfolding drivingFits
-  drives e n h = leb-true _ _ (all-at _ 16 (six e .1 .1 .0) n h)
+  drives e n h = all-at _ 16 (six e .1 .1 .0) n h
 
   sensible : makesSense bus ≡ true → Sensible bus
   unfolding arbitrates held
@@ -60,26 +61,20 @@ module _ (bus : Bus) where
     codes = λ p h. leb-true _ _ (every-at (λ code. leb code 2) (bus .pages) (six e .0 .1 .0) p (subst (λ (n : ℕ). p < n) (sym (eqb-true _ _ (sizes .0))) h));
     phases = leb-true _ _ (six e .0 .1 .1);
     contendersFitted = within-at (bus .contenders) (bus .fitted) (contention .0);
-    someInArbitration = λ a. some-at (bus .contenders) (then-of arbitrates (someCard (bus .contenders)) (contention .1 .0) (eq-eqb _ _ a));
-    noneElsewhere = λ a. none-at (bus .contenders) (not-true _ (else-of arbitrates (not (someCard (bus .contenders))) (contention .1 .1) (ne-eqb _ _ a)));
-    contenderDrives = λ n c. subst (λ (b : Bool). getD (bus .driven) n 0 ≤ cond b 15 0) c (drives e n (card-below _ n c));
-    idleDrives = λ n h c. let none : getD (bus .driven) n 0 ≤ 0 = subst (λ (b : Bool). getD (bus .driven) n 0 ≤ cond b 15 0) c (drives e n h) in omega arith;
-    grantedFitted = λ h. then-of held (cardIn (bus .fitted) (bus .granted)) (grant .0) (rw (le-leb 2 (bus .phase) h) (six e .0 .1 .1));
-    nobodyElsewhere = λ h. eqb-true _ _ (else-of held (eqb (bus .granted) nobody) (grant .1) (rw (lt-leb 2 (bus .phase) h)));
+    someInArbitration = λ a. some-at (bus .contenders) (then-chosen arbitrates _ _ (contention .1) (eq-eqb _ _ a));
+    noneElsewhere = λ a. none-at (bus .contenders) (not-true _ (else-chosen arbitrates _ _ (contention .1) (ne-eqb _ _ a)));
+    contenderDrives = λ n c. leb-true _ _ (then-chosen (cardIn (bus .contenders) n) _ _ (drives e n (card-below _ n c)) c);
+    idleDrives = λ n h c. eqb-true _ _ (else-chosen (cardIn (bus .contenders) n) _ _ (drives e n h) c);
+    grantedFitted = λ h. then-chosen held _ _ (six e .1 .1 .1) (rw (le-leb 2 (bus .phase) h) (six e .0 .1 .1));
+    nobodyElsewhere = λ h. eqb-true _ _ (else-chosen held _ _ (six e .1 .1 .1) (rw (lt-leb 2 (bus .phase) h)));
   }
     where
       sizes : (eqb (length (bus .pages)) 16 ≡ true) × (eqb (length (bus .driven)) 16 ≡ true)
       sizes = and-eq-true-iff (eqb (length (bus .pages)) 16) (eqb (length (bus .driven)) 16) .0 (six e .0 .0)
 
       contention : (isWithin (bus .contenders) (bus .fitted) ≡ true)
-          × (((not arbitrates || someCard (bus .contenders)) ≡ true) × ((arbitrates || not (someCard (bus .contenders))) ≡ true))
-      contention =
-          all-three (isWithin (bus .contenders) (bus .fitted)) (not arbitrates || someCard (bus .contenders))
-          (arbitrates || not (someCard (bus .contenders)))
-          (six e .1 .0)
-
-      grant : ((not held || cardIn (bus .fitted) (bus .granted)) ≡ true) × ((held || eqb (bus .granted) nobody) ≡ true)
-      grant = and-eq-true-iff (not held || cardIn (bus .fitted) (bus .granted)) (held || eqb (bus .granted) nobody) .0 (six e .1 .1 .1)
+          × (cond arbitrates (someCard (bus .contenders)) (not (someCard (bus .contenders))) ≡ true)
+      contention = and-eq-true-iff (isWithin (bus .contenders) (bus .fitted)) _ .0 (six e .1 .0)
 
   -- ---- From the sentences to the test
 
@@ -98,20 +93,15 @@ module _ (bus : Bus) where
       (and-eq-true-iff _ _ .1 (eq-eqb _ _ (s .sixteenPages), eq-eqb _ _ (s .sixteenLevels)))
       (every-of (λ code. leb code 2) (bus .pages) (λ p h. le-leb _ _ (s .codes p (subst (λ (n : ℕ). p < n) (s .sixteenPages) h))))
       (le-leb _ _ (s .phases))
-      (and-eq-true-iff _ _ .1 (and-eq-true-iff _ _ .1 (within-of _ _ (s .contendersFitted), of-then arbitrates _ some), of-else arbitrates _ none))
-      (all-of _ 16 (λ n h. le-leb _ _ (drives-at n h (true-or-false (cardIn (bus .contenders) n)))))
-      (and-eq-true-iff _ _ .1 (of-then held _ fitted, of-else held _ nobody-then))
+      (and-eq-true-iff _ _ .1 (within-of _ _ (s .contendersFitted), choice-of arbitrates _ _ some none))
+      (all-of _ 16 (λ n h. choice-of (cardIn (bus .contenders) n) _ _ (λ c. le-leb _ _ (s .contenderDrives n c)) (λ c. eq-eqb _ _ (s .idleDrives n h c))))
+      (choice-of held _ _ fitted nobody-then)
     where
       some : arbitrates ≡ true → someCard (bus .contenders) ≡ true
       some a = let found = s .someInArbitration (eqb-true _ _ a) in some-of (bus .contenders) (found .0) (found .1)
 
       none : arbitrates ≡ false → not (someCard (bus .contenders)) ≡ true
       none a = ap not (none-of (bus .contenders) (s .noneElsewhere (eqb-false _ _ a)))
-
-      drives-at : (n : ℕ) → n < 16 → (cardIn (bus .contenders) n ≡ true) ⊎ (cardIn (bus .contenders) n ≡ false)
-          → getD (bus .driven) n 0 ≤ cond (cardIn (bus .contenders) n) 15 0
-      drives-at n h (inl c) = subst (λ (b : Bool). getD (bus .driven) n 0 ≤ cond b 15 0) (sym c) (s .contenderDrives n c)
-      drives-at n h (inr c) = subst (λ (b : Bool). getD (bus .driven) n 0 ≤ cond b 15 0) (sym c) (le-of-eq (s .idleDrives n h c))
 
       fitted : held ≡ true → cardIn (bus .fitted) (bus .granted) ≡ true
       fitted h = s .grantedFitted (leb-true _ _ (and-eq-true-iff (leb 2 (bus .phase)) (leb (bus .phase) 5) .0 h .0))

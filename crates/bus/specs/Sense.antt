@@ -1,6 +1,6 @@
 -- When a state makes sense (01, "State and phases").
 use Prim.Native.Nat.{ℕ}
-use mathlib.Core.Bool.{Bool, cond, not, _&&_, _||_}
+use mathlib.Core.Bool.{Bool, cond, not, _&&_}
 use mathlib.Core.List.{List}
 use lib.Dec.{eqb, leb}
 use lib.ListN.{length, getD}
@@ -23,18 +23,16 @@ pagesKnown pages = everyListed (λ code. leb code 2) pages
 abbrev pub contentionFits : Bus → Bool
 contentionFits bus =
     isWithin (bus .contenders) (bus .fitted)
-    && (not (eqb (bus .phase) Phase.arbitration) || someCard (bus .contenders))
-    && (eqb (bus .phase) Phase.arbitration || not (someCard (bus .contenders)))
+    && cond (eqb (bus .phase) Phase.arbitration) (someCard (bus .contenders)) (not (someCard (bus .contenders)))
 
 -- contenders drive what four lines can show, and the rest of the cards nothing
 unfoldable pub drivingFits : ℕ → List ℕ → Bool
-drivingFits contenders driven = allBelow (λ n. leb (getD driven n 0) (cond (cardIn contenders n) 15 0)) 16
+drivingFits contenders driven = allBelow (λ n. cond (cardIn contenders n) (leb (getD driven n 0) 15) (eqb (getD driven n 0) 0)) 16
 
 -- from the grant to the end of transfer two a fitted card is granted, and in the other phases nobody is
 abbrev pub grantFits : Bus → Bool
 grantFits bus =
-    (not (Phase.isFrom Phase.granted Phase.transferTwo (bus .phase)) || cardIn (bus .fitted) (bus .granted))
-    && (Phase.isFrom Phase.granted Phase.transferTwo (bus .phase) || eqb (bus .granted) nobody)
+    cond (Phase.isFrom Phase.granted Phase.transferTwo (bus .phase)) (cardIn (bus .fitted) (bus .granted)) (eqb (bus .granted) nobody)
 
 unfoldable pub makesSense : Bus → Bool
 makesSense bus =

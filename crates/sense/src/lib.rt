@@ -58,16 +58,23 @@ pub fn makes_sense(bus: Bus) -> bool
 fn contention_fits(bus: Bus) -> bool
     ensures { λ r. ⌜ r ≡ contentionFits bus ⌝ }
 {
-    let arbitrates = bus.phase == ARBITRATION;
+    let fitted = is_within(bus.contenders, bus.fitted);
     let some = some_card(bus.contenders);
-    is_within(bus.contenders, bus.fitted) & (!arbitrates | some) & (arbitrates | !some)
+    if bus.phase == ARBITRATION {
+        fitted & some
+    } else {
+        fitted & !some
+    }
 }
 
 fn grant_fits(bus: Bus) -> bool
     ensures { λ r. ⌜ r ≡ grantFits bus ⌝ }
 {
-    let held = (GRANTED <= bus.phase) & (bus.phase <= TRANSFER_TWO);
-    (!held | card_in(bus.fitted, bus.granted)) & (held | (bus.granted == NOBODY))
+    if (GRANTED <= bus.phase) & (bus.phase <= TRANSFER_TWO) {
+        card_in(bus.fitted, bus.granted)
+    } else {
+        bus.granted == NOBODY
+    }
 }
 
 // The other cards drive nothing, and the contenders no more than four lines show.

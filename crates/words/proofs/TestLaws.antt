@@ -35,18 +35,27 @@ pub then-of : (a b : Bool) → (not a || b) ≡ true → a ≡ true → b ≡ tr
 then-of true b e h = e
 then-of false b e h = absurd (true≢false (sym h))
 
--- `a || b`, where a doesn't hold
+pub of-then : (a b : Bool) → (a ≡ true → b ≡ true) → (not a || b) ≡ true
+of-then true b h = h refl
+of-then false b h = refl
+
+-- the second of two holds where the first doesn't
 pub else-of : (a b : Bool) → (a || b) ≡ true → a ≡ false → b ≡ true
 else-of true b e f = absurd (true≢false f)
 else-of false b e f = e
 
-pub of-else : (a b : Bool) → (a ≡ false → b ≡ true) → (a || b) ≡ true
-of-else true b h = refl
-of-else false b h = h refl
+-- a choice that holds, by what was asked
+pub then-chosen : (b x y : Bool) → cond b x y ≡ true → b ≡ true → x ≡ true
+then-chosen true x y e h = e
+then-chosen false x y e h = absurd (true≢false (sym h))
 
-pub of-then : (a b : Bool) → (a ≡ true → b ≡ true) → (not a || b) ≡ true
-of-then true b h = h refl
-of-then false b h = refl
+pub else-chosen : (b x y : Bool) → cond b x y ≡ true → b ≡ false → y ≡ true
+else-chosen true x y e f = absurd (true≢false f)
+else-chosen false x y e f = e
+
+pub choice-of : (b x y : Bool) → (b ≡ true → x ≡ true) → (b ≡ false → y ≡ true) → cond b x y ≡ true
+choice-of true x y t f = t refl
+choice-of false x y t f = f refl
 
 -- what is picked by a test that came out one way or the other
 pub then-pick : {A : Type 0} {b : Bool} {x y : A} (z : A) → b ≡ true → x ≡ y → x ≡ cond b y z
