@@ -1,10 +1,11 @@
 -- The runs on small states, by computation.
 use mathlib.Core.Path.{refl}
 use Rattle.words.specs.Below.{allBelow, orBelow}
-use Rattle.words.specs.Among.{everyListed}
+use Rattle.words.specs.Among.{everyListed, beside}
 use Rattle.words.specs.First.{firstOf, leastBelow}
 use Rattle.lines.specs.Look.{look}
 use Rattle.lines.specs.Arbitration.{everyContender, shown, looked, settled, afterLook}
+use Rattle.phases.specs.Signal.{signalsIn}
 use Rattle.cards.specs.Cards.{someCard, isWithin}
 use Rattle.bus.specs.Sense.{drivingFits, makesSense}
 use Rattle.bus.specs.Steps.{afterLooksOf}
@@ -48,7 +49,7 @@ settle-refusals = record {
 }
 
 pub printed-run : PrintedRun
-unfolding allBelow orBelow look everyContender shown looked settled afterLook someCard isWithin afterLooksOf everyListed drivingFits makesSense
+unfolding beside signalsIn allBelow orBelow look everyContender shown looked settled afterLook someCard isWithin afterLooksOf everyListed drivingFits makesSense
 printed-run = record { atFirst = refl; asPrinted = refl; back = refl }
 
 pub zero-and-own-bits : ZeroAndOwnBits

@@ -11,6 +11,7 @@ use lib.ListN.{length, getD, getD-replicate, replicate}
 use borrow.Author.Tests.{leb-true, le-leb}
 use Rattle.words.proofs.TestLaws.{true-or-false}
 use Rattle.words.proofs.ListLaws.{every-at, every-of}
+use Rattle.words.specs.Among.{beside}
 use Rattle.phases.specs.Phase as Phase
 use Rattle.phases.specs.Signal.{HOLD, pHLDA, isOn, signalsIn}
 use Rattle.bus.specs.Sense.{pagesKnown, makesSense}
@@ -45,6 +46,7 @@ setup-makes-sense fitted pages size = go (true-or-false (pagesKnown pages))
 -- ---- HOLD false, and the bus not free
 
 pub hold-false-is-not-free : HoldFalseIsNotFree
+unfolding beside signalsIn
 hold-false-is-not-free bus e = (
   ap (λ (p : ℕ). isOn HOLD (signalsIn p)) e,
   ap (λ (p : ℕ). isOn pHLDA (signalsIn p)) e,

@@ -1,16 +1,16 @@
 -- What settle answers: the least count, or the state as given.
 use Prim.Native.Nat.{ℕ, suc, suc-le-suc, _<_, _≤_}
 use mathlib.Core.Path.{_≡_, refl, sym, subst, ap, _∙_}
-use mathlib.Core.Logic.{_⊎_, inl, inr}
-use mathlib.Core.Bool.{Bool, true, false, cond, not, true≢false}
+use mathlib.Core.Logic.{_⊎_, inl, inr, ⊎-elim}
+use mathlib.Core.Bool.{Bool, true, false, cond, not, true≢false, false≢true}
 use mathlib.Core.List.{List, [], _∷_, _++_, flatten}
 use native.Mathlib.Nat.{le-refl, le-of-suc-le-suc}
 use native.Mathlib.Omega.{arith}
-use lib.Dec.{eqb}
+use lib.Dec.{eqb, lit<}
 use lib.ListN.{length, take}
 use lib.Seq.{take-length}
 use borrow.Author.Tests.{eqb-true, eqb-false, eq-eqb, ne-eqb, not-true, not-false}
-use Rattle.words.specs.First.{firstOf, ascendsFrom}
+use Rattle.words.specs.First.{firstOf, appliesAs, ascendsFrom}
 use Rattle.words.proofs.TestLaws.{true-or-false}
 use Rattle.words.proofs.BelowLaws.{all-at, all-of, some-not}
 use Rattle.words.proofs.FirstLaws.{first-by-number, least-passes, least-first, least-below}
@@ -18,10 +18,11 @@ use Rattle.lines.specs.Arbitration.{Highest}
 use Rattle.phases.specs.Phase as Phase
 use Rattle.bus.specs.Refusal as Refusal
 use Rattle.bus.specs.State.{arbitrationOf, isSettled}
-use Rattle.bus.specs.Sense.{makesSense}
+use Rattle.bus.specs.Sense.{pagesKnown, makesSense}
+use Rattle.bus.specs.Setup.{setupOf}
 use Rattle.bus.specs.Steps.{afterLooksOf}
 use Rattle.bus.specs.Settle.{settledAfter, leadingLooks, neverSettles, isSenseless, namesNoCard, namesUnfitted, isElsewhere, namesIdle, settleReasons, listRefusal, settleRefusal, refusedAs, acceptedAfter, settleOf}
-use Rattle.bus.specs.Promises.{SettledBy, SettleRefusedKeeps, SettleCountsLeast, SettleByNumber, SettleUnsettled, FourRoundsListed}
+use Rattle.bus.specs.Promises.{SettledBy, SettleRefusedKeeps, SettleCountsLeast, SettleByNumber, NoBuffersThere, SettleUnsettled, FourRoundsListed}
 use Rattle.bus.specs.declared.state.Bus.{Bus}
 use Rattle.bus.specs.declared.settle.Settlement.{Settlement}
 use Rattle.bus.proofs.Granting.{highest-there, four-rounds}
@@ -108,6 +109,19 @@ unfolding settleRefusal ascendsFrom
 settle-by-number bus cards n h =
     let lowest = first-by-number (settleReasons bus cards) refl n h in
     (λ e. lowest .0 (sym (answers bus cards) ∙ e), λ low. answers bus cards ∙ lowest .1 low)
+
+setup-not-one : (fitted : ℕ) (pages : List ℕ) → setupOf fitted pages .answer ≡ Refusal.wrongBuffers → ⊥
+setup-not-one fitted pages = ⊎-elim (λ known. rw known zero) (λ unknown. rw unknown eleven) (true-or-false (pagesKnown pages))
+  where
+    zero : _≡_ {A = ℕ} 0x00 0x01 → ⊥
+    zero e = omega (arith, e)
+
+    eleven : _≡_ {A = ℕ} 0x0B 0x01 → ⊥
+    eleven e = omega (arith, e)
+
+pub no-buffers-there : NoBuffersThere
+unfolding appliesAs
+no-buffers-there = (λ bus cards given. false≢true (settle-by-number bus cards Refusal.wrongBuffers (lit< tt) .0 given .0), setup-not-one)
 
 -- what is wrong with the state or the list comes first
 list-first : (bus : Bus) (cards : List ℕ) → (listRefusal bus cards ≡ 0 → ⊥) → settleOf bus cards .answer ≡ listRefusal bus cards

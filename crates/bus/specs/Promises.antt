@@ -144,6 +144,12 @@ SettleByNumber =
     → (settleOf bus cards .answer ≡ n)
     ↔ ((appliesAs n (settleReasons bus cards) ≡ true) × ((k : ℕ) → k < n → appliesAs k (settleReasons bus cards) ≡ false))
 
+-- 01 is for memory and ports, and neither settle nor setup is given any.
+abbrev pub NoBuffersThere : Type 0
+NoBuffersThere =
+    ((bus : Bus) (cards : List ℕ) → settleOf bus cards .answer ≡ Refusal.wrongBuffers → ⊥)
+    × ((fitted : ℕ) (pages : List ℕ) → setupOf fitted pages .answer ≡ Refusal.wrongBuffers → ⊥)
+
 -- Where the state and the list are in order, unsettled means that the lines are not settled after any beginning of the list.
 abbrev pub SettleUnsettled : Type 0
 SettleUnsettled =

@@ -51,3 +51,7 @@ badPage = 0x0B
 -- a text line of the wrong length, or with a byte that is no digit
 abbrev pub badLine : ℕ
 badLine = 0x0C
+
+-- none of 01's: a buffer of some call has a length that the call can't have, where 01's first number is for memory and ports alone
+abbrev pub wrongLength : ℕ
+wrongLength = 0xFF

@@ -29,3 +29,6 @@ pub const ABSENT: u8 = 0x0A;
 pub const BAD_PAGE: u8 = 0x0B;
 
 pub const BAD_LINE: u8 = 0x0C;
+
+// Not one of 01's: a buffer of a call has another length than it must have.
+pub const WRONG_LENGTH: u8 = 0xFF;

@@ -5,6 +5,7 @@ use Rattle.words.specs.Among.{isAmong, beside}
 use Rattle.words.specs.First.{firstOf}
 use Rattle.lines.specs.Look.{look}
 use Rattle.lines.specs.Arbitration.{everyContender, shown, looked, settled}
+use Rattle.phases.specs.Signal.{signalsIn}
 use Rattle.phases.specs.Status.{statusOf}
 use Rattle.cards.specs.Cards.{someCard, isWithin}
 use Rattle.memory.specs.Cycles.{byteRead, byteWrite, wordRead, wordWrite, afterWordWrite}
@@ -15,9 +16,9 @@ use Rattle.events.specs.Step.{soundAfter, soundAnswer}
 use Rattle.events.specs.Examples.{answers, left, PrintedRun, PermanentMasterCycles}
 
 pub printed-run : PrintedRun
-unfolding allBelow orBelow isAmong beside firstOf look everyContender shown looked settled statusOf someCard isWithin byteRead byteWrite wordRead wordWrite afterWordWrite rowIn soundRefusal wordSignals soundAfter soundAnswer answers left
+unfolding allBelow orBelow isAmong beside signalsIn firstOf look everyContender shown looked settled statusOf someCard isWithin byteRead byteWrite wordRead wordWrite afterWordWrite rowIn soundRefusal wordSignals soundAfter soundAnswer answers left
 printed-run = record { asPrinted = refl; bytes = refl; home = refl }
 
 pub permanent-master-cycles : PermanentMasterCycles
-unfolding allBelow orBelow isAmong beside firstOf look everyContender shown looked settled statusOf someCard isWithin byteRead byteWrite wordRead wordWrite afterWordWrite rowIn soundRefusal wordSignals soundAfter soundAnswer answers left
+unfolding allBelow orBelow isAmong beside signalsIn firstOf look everyContender shown looked settled statusOf someCard isWithin byteRead byteWrite wordRead wordWrite afterWordWrite rowIn soundRefusal wordSignals soundAfter soundAnswer answers left
 permanent-master-cycles = record { answered = refl; bytes = refl; ports = refl; sameBytes = refl }

@@ -11,9 +11,10 @@ use lib.ListN.{length, getD, set}
 use borrow.Author.Tests.{eqb-true, ltb-false, lt-ltb, not-false}
 use Rattle.words.specs.Among.{isAmong, beside}
 use Rattle.words.proofs.TestLaws.{either-of, neither-of}
+use Rattle.phases.specs.Phase as Phase
 use Rattle.phases.specs.Kind as Kind
 use Rattle.phases.specs.Control.{allowsCycles}
-use Rattle.phases.specs.Driver.{driversIn}
+use Rattle.phases.specs.Driver.{allPermanent, allCard, driversIn}
 use Rattle.phases.specs.Status.{statusOf}
 use Rattle.memory.specs.Halves.{evenHalf, oddHalf, wordOf}
 use Rattle.memory.specs.Cycles.{inOneCycle, hasWord, afterWordWrite}
@@ -26,7 +27,7 @@ use Rattle.judgement.specs.declared.event.Event.{Event}
 use Rattle.events.specs.Machine.{Machine}
 use Rattle.events.specs.Cycles.{byteOf}
 use Rattle.events.specs.Answers.{wordSignals}
-use Rattle.events.specs.Promises.{SpeakerDrives, allPermanent, allCard, Accepted, Moves, wordAdds, ByteReadDoes, OpcodeFetchDoes, ByteWriteDoes, InputDoes, OutputDoes, WordReadDoes, WordWriteDoes}
+use Rattle.events.specs.Promises.{SpeakerDrives, Accepted, Moves, wordAdds, ByteReadDoes, OpcodeFetchDoes, ByteWriteDoes, InputDoes, OutputDoes, WordReadDoes, WordWriteDoes}
 use Rattle.events.proofs.TakenLaws.{right-buffers, has-passed, phase-allows, speaker-has-turn, does}
 
 module _ (k : ℕ) (m : Machine) (event : Event) (ok : Accepted k m event) where
@@ -150,6 +151,7 @@ word-write-does m event ok sixteen page =
 -- ---- Who drives
 
 pub speaker-drives : SpeakerDrives
+unfolding beside driversIn
 speaker-drives m event low high ok =
     ⊎-elim (λ early. ⊎-elim (λ e. inl (first e)) (λ e. inl (second e)) (either-of (eqb phase 0) (eqb phase 1) early)) (λ e. inr (owned e))
     (either-of (eqb phase 0 || eqb phase 1) (eqb phase 4) allowed)
@@ -167,11 +169,11 @@ speaker-drives m event low high ok =
     speaks =
         eqb-true _ _ (ap (λ (who : Speaker). hasTurn who (m .bus) (event .speaker)) (sym (row .speaker)) ∙ speaker-has-turn m event ok (event .kind) refl)
 
-    first : eqb phase 0 ≡ true → (event .speaker ≡ permanentMaster) × (driversIn phase ≡ allPermanent)
-    first e = let at : m .bus .phase ≡ 0 = eqb-true _ _ e in (speaks ∙ rw at, ap driversIn at)
+    first : eqb phase 0 ≡ true → (phase ≤ Phase.arbitration) × ((event .speaker ≡ permanentMaster) × (driversIn phase ≡ allPermanent))
+    first e = let at : m .bus .phase ≡ 0 = eqb-true _ _ e in (omega (arith, at), (speaks ∙ rw at, ap driversIn at))
 
-    second : eqb phase 1 ≡ true → (event .speaker ≡ permanentMaster) × (driversIn phase ≡ allPermanent)
-    second e = let at : m .bus .phase ≡ 1 = eqb-true _ _ e in (speaks ∙ rw at, ap driversIn at)
+    second : eqb phase 1 ≡ true → (phase ≤ Phase.arbitration) × ((event .speaker ≡ permanentMaster) × (driversIn phase ≡ allPermanent))
+    second e = let at : m .bus .phase ≡ 1 = eqb-true _ _ e in (omega (arith, at), (speaks ∙ rw at, ap driversIn at))
 
-    owned : eqb phase 4 ≡ true → (event .speaker ≡ m .bus .granted) × (driversIn phase ≡ allCard)
-    owned e = let at : m .bus .phase ≡ 4 = eqb-true _ _ e in (speaks ∙ rw at, ap driversIn at)
+    owned : eqb phase 4 ≡ true → (phase ≡ Phase.owned) × ((event .speaker ≡ m .bus .granted) × (driversIn phase ≡ allCard))
+    owned e = let at : m .bus .phase ≡ 4 = eqb-true _ _ e in (at, (speaks ∙ rw at, ap driversIn at))

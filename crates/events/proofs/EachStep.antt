@@ -6,11 +6,12 @@ use native.Mathlib.Omega.{arith}
 use lib.Dec.{eqb, leb}
 use lib.ListN.{set}
 use borrow.Author.Tests.{eqb-true, eq-eqb, not-false}
-use Rattle.words.specs.Among.{isAmong}
+use Rattle.words.specs.Among.{isAmong, beside}
 use Rattle.lines.specs.Look.{look}
 use Rattle.lines.specs.Arbitration.{looked}
 use Rattle.phases.specs.Phase as Phase
 use Rattle.phases.specs.Kind as Kind
+use Rattle.phases.specs.Signal.{signalsIn}
 use Rattle.phases.specs.Driver.{driversIn}
 use Rattle.phases.specs.Status.{statusOf}
 use Rattle.memory.specs.Cycles.{nothing}
@@ -68,7 +69,7 @@ both {a} {b} e f = and-eq-true-iff a b .1 (e, f)
 -- ---- Asking for the bus
 
 pub request-does : RequestDoes
-unfolding rowIn isAmong NoCycle wordSignals statusOf
+unfolding rowIn isAmong NoCycle beside signalsIn driversIn wordSignals statusOf
 request-does m event ok =
     steps Kind.request m event ok (refl, (refl, (refl, (refl, (refl, (refl, refl)))))) (changed (m .bus) Phase.arbitration (event .datum) silent nobody) step 1 (λ s. refl) refl
   where
@@ -102,7 +103,7 @@ module _ (m : Machine) (event : Event) (k : ℕ) (ok : Accepted k m event) where
   nobody-yet at = in-sense m event (ok .1) .nobodyElsewhere (omega (arith, at))
 
 pub look-does : LookDoes
-unfolding looked rowIn isAmong NoCycle wordSignals statusOf
+unfolding looked rowIn isAmong NoCycle beside signalsIn driversIn wordSignals statusOf
 look-does m event ok = steps Kind.look m event ok (refl, (refl, (refl, (refl, (refl, (refl, refl)))))) after-look step 1 (λ s. refl) refl
   where
     after-look : Bus
@@ -118,7 +119,7 @@ look-does m event ok = steps Kind.look m event ok (refl, (refl, (refl, (refl, (r
         rw (may, at, nobody-yet m event Kind.look ok at)
 
 pub acknowledge-does : AcknowledgeDoes
-unfolding rowIn isAmong NoCycle wordSignals statusOf
+unfolding rowIn isAmong NoCycle beside signalsIn driversIn wordSignals statusOf
 acknowledge-does m event ok =
     steps Kind.acknowledge m event ok (refl, (refl, (refl, (refl, (refl, (refl, refl)))))) (changed (m .bus) Phase.granted 0 silent (linesOf (m .bus))) step 3 (λ s. refl) refl
   where
@@ -148,25 +149,25 @@ transfer-step : (bus : Bus) (from to card : ℕ) → mayTransfer bus from card �
 transfer-step bus from to card may = rw may
 
 pub begin-transfer-one-does : BeginTransferOneDoes
-unfolding rowIn isAmong NoCycle wordSignals statusOf
+unfolding rowIn isAmong NoCycle beside signalsIn driversIn wordSignals statusOf
 begin-transfer-one-does m event ok =
     steps Kind.beginTransferOne m event ok (refl, (refl, (refl, (refl, (refl, (refl, refl)))))) _
     (transfer-step (m .bus) Phase.granted Phase.transferOne (event .speaker) (may-transfer m event Kind.beginTransferOne Phase.granted ok refl refl)) 0x1F (λ s. refl) refl
 
 pub take-bus-does : TakeBusDoes
-unfolding rowIn isAmong NoCycle wordSignals statusOf
+unfolding rowIn isAmong NoCycle beside signalsIn driversIn wordSignals statusOf
 take-bus-does m event ok =
     steps Kind.takeBus m event ok (refl, (refl, (refl, (refl, (refl, (refl, refl)))))) _
     (transfer-step (m .bus) Phase.transferOne Phase.owned (event .speaker) (may-transfer m event Kind.takeBus Phase.transferOne ok refl refl)) 0x3F (λ s. refl) refl
 
 pub begin-transfer-two-does : BeginTransferTwoDoes
-unfolding rowIn isAmong NoCycle wordSignals statusOf
+unfolding rowIn isAmong NoCycle beside signalsIn driversIn wordSignals statusOf
 begin-transfer-two-does m event ok =
     steps Kind.beginTransferTwo m event ok (refl, (refl, (refl, (refl, (refl, (refl, refl)))))) _
     (transfer-step (m .bus) Phase.owned Phase.transferTwo (event .speaker) (may-transfer m event Kind.beginTransferTwo Phase.owned ok refl refl)) 0x1E (λ s. refl) refl
 
 pub give-back-does : GiveBackDoes
-unfolding rowIn isAmong NoCycle wordSignals statusOf
+unfolding rowIn isAmong NoCycle beside signalsIn driversIn wordSignals statusOf
 give-back-does m event ok =
     steps Kind.giveBack m event ok (refl, (refl, (refl, (refl, (refl, (refl, refl)))))) (changed (m .bus) Phase.free (m .bus .contenders) (m .bus .driven) nobody) step 0 (λ s. refl) refl
   where
@@ -176,5 +177,5 @@ give-back-does m event ok =
         rw may
 
 pub reset-does : ResetDoes
-unfolding rowIn isAmong NoCycle wordSignals statusOf
+unfolding rowIn isAmong NoCycle beside signalsIn driversIn wordSignals statusOf
 reset-does m event ok = steps Kind.reset m event ok (refl, (refl, (refl, (refl, (refl, (refl, refl)))))) (changed (m .bus) Phase.free 0 silent nobody) refl 0 (λ s. refl) refl

@@ -1,28 +1,29 @@
 -- Refused events: what they leave, what is answered, and by which number.
 use Rattle.words.proofs.TestLaws.{neither-of}
 use lib.Dec.{eqb, leb, ltb}
-use Prim.Native.Nat.{ℕ, _≤_}
+use Prim.Native.Nat.{ℕ, _<_, _≤_}
 use mathlib.Core.Path.{_≡_, refl, sym, ap, _∙_, subst}
-use mathlib.Core.Logic.{_⊎_, inl, inr}
-use mathlib.Core.Bool.{true, false, not, true≢false, Bool, _&&_, _||_, and-eq-true-iff}
+use mathlib.Core.Logic.{_⊎_, _↔_, inl, inr}
+use mathlib.Core.Bool.{true, false, cond, not, true≢false, Bool, _&&_, _||_, and-eq-true-iff}
 use native.Mathlib.Omega.{arith}
 use borrow.Author.Tests.{ne-eqb, lt-leb, eqb-true, leb-true, ltb-false, not-false}
-use Rattle.words.specs.First.{ascendsFrom, firstOf}
+use Rattle.words.specs.First.{appliesAs, ascendsFrom, firstOf}
+use Rattle.words.specs.Among.{beside}
 use Rattle.words.proofs.FirstLaws.{first-by-number, none-applies}
 use Rattle.phases.specs.Phase as Phase
 use Rattle.phases.specs.Kind as Kind
 use Rattle.phases.specs.Signal.{HOLD, isOn, signalsIn}
 use Rattle.memory.specs.Cycles.{nothing}
 use Rattle.bus.specs.Refusal as Refusal
-use Rattle.judgement.specs.Table.{eventOf, rowIn, permanentMaster, listsSpeaker, listsAddress, listsDatum}
+use Rattle.judgement.specs.Table.{eventOf, rowIn, rowOf, permanentMaster, listsSpeaker, listsAddress, listsDatum}
 use Rattle.judgement.specs.Refusals.{isWrongPhase, hasStrayField, isTooWide, isMalformed}
 use Rattle.judgement.specs.Judge.{reasonsAgainst, refusalOf, soundRefusal}
 use Rattle.judgement.specs.declared.event.Event.{Event}
 use Rattle.judgement.proofs.Passed.{passed, accepted-call, sound-call}
 use Rattle.events.specs.Machine.{Machine}
-use Rattle.events.specs.Answers.{answerWith, refusedWith}
-use Rattle.events.specs.Step.{refusalIn, after, answerTo, soundAfter, soundAnswer}
-use Rattle.events.specs.Promises.{RefusedKeeps, RefusedAnswers, RefusedByNumber, AcceptedByNone, SoundStepIsTheStep, RequestInTransferTwo, RequestTooEarly, onlyNumber, AcceptedIsWellFormed}
+use Rattle.events.specs.Answers.{answerWith, bare, refusedWith}
+use Rattle.events.specs.Step.{answerBy, refusalIn, after, answerTo, soundAfter, soundAnswer}
+use Rattle.events.specs.Promises.{RefusedKeeps, RefusedAnswers, RefusedByNumber, AcceptedByNone, SoundStepIsTheStep, RequestInTransferTwo, RequestTooEarly, AcceptedIsWellFormed}
 
 pub refused-keeps : RefusedKeeps
 unfolding after
@@ -36,20 +37,42 @@ answer-refused m event n e other = rw (e, ne-eqb n 0 other)
 pub refused-answers : RefusedAnswers
 refused-answers m event n given = (alone, shown)
   where
-    alone : (n ≡ Refusal.wrongBuffers) ⊎ (n ≡ Refusal.senseless) → answerTo m event ≡ onlyNumber n
+    alone : (n ≡ Refusal.wrongBuffers) ⊎ (n ≡ Refusal.senseless) → answerTo m event ≡ bare n
     alone (inl e) = answer-refused m event n given (λ z. omega (arith, z, e)) ∙ rw e
     alone (inr e) = answer-refused m event n given (λ z. omega (arith, z, e)) ∙ rw e
 
     shown : Refusal.malformed ≤ n → answerTo m event ≡ answerWith n (m .bus) (signalsIn (m .bus .phase)) 0 nothing
     shown h = answer-refused m event n given (λ z. omega (arith, z, h)) ∙ rw (lt-leb n Refusal.senseless h)
 
+-- n applies, and nothing lower
+abbrev FirstAt : Machine → Event → ℕ → Type 0
+FirstAt m event n =
+    (appliesAs n (reasonsAgainst (m .memory) (m .ports) (m .bus) event) ≡ true)
+    × ((k : ℕ) → k < n → appliesAs k (reasonsAgainst (m .memory) (m .ports) (m .bus) event) ≡ false)
+
+-- the number answered is the refusal's
+pub answers-refusal : (m : Machine) (event : Event) → answerTo m event .refusal ≡ refusalIn m event
+unfolding answerTo
+answers-refusal m event = go (eqb (refusalIn m event) 0) refl (leb (refusalIn m event) Refusal.senseless)
+  where
+    go : (a : Bool) → eqb (refusalIn m event) 0 ≡ a → (b : Bool)
+        → cond a (answerBy (rowOf (event .kind) .step) m event)
+        (cond b (bare (refusalIn m event)) (answerWith (refusalIn m event) (m .bus) (signalsIn (m .bus .phase)) 0 nothing)) .refusal ≡ refusalIn m event
+    go true e b = sym (eqb-true _ _ e)
+    go false e true = refl
+    go false e false = refl
+
 pub refused-by-number : RefusedByNumber
 unfolding refusalOf ascendsFrom
-refused-by-number m event = first-by-number (reasonsAgainst (m .memory) (m .ports) (m .bus) event) refl
+refused-by-number m event n h =
+    subst (λ (given : ℕ). (given ≡ n) ↔ FirstAt m event n) (sym (answers-refusal m event))
+    (first-by-number (reasonsAgainst (m .memory) (m .ports) (m .bus) event) refl n h)
 
 pub accepted-by-none : AcceptedByNone
 unfolding refusalOf ascendsFrom
-accepted-by-none m event = none-applies (reasonsAgainst (m .memory) (m .ports) (m .bus) event) refl
+accepted-by-none m event =
+    subst (λ (given : ℕ). (given ≡ 0) ↔ ((n : ℕ) → appliesAs n (reasonsAgainst (m .memory) (m .ports) (m .bus) event) ≡ false)) (sym (answers-refusal m event))
+    (none-applies (reasonsAgainst (m .memory) (m .ports) (m .bus) event) refl)
 
 pub sound-step-is-the-step : SoundStepIsTheStep
 unfolding after answerTo soundAfter soundAnswer
@@ -62,6 +85,7 @@ unfolding rowIn
 wrong-then m event p k = rw (k, p)
 
 pub request-in-transfer-two : RequestInTransferTwo
+unfolding beside signalsIn
 request-in-transfer-two m event p k = (
   ap (λ (q : ℕ). isOn HOLD (signalsIn q)) p,
   λ ok. true≢false (sym (wrong-then m event p k) ∙ passed (m .bus) event (accepted-call (m .bus) event (m .memory) (m .ports) ok .1 .1) .phase),

@@ -1,6 +1,6 @@
 -- What an event leaves as it was.
 use Prim.Native.Nat.{ℕ, _+_, _<_, _≤_}
-use mathlib.Core.Path.{_≡_, refl, subst, ap}
+use mathlib.Core.Path.{_≡_, refl, sym, subst, ap, _∙_}
 use mathlib.Core.Logic.{_⊎_, inl, inr, ⊎-elim}
 use mathlib.Core.Bool.{Bool, true, false, cond}
 use mathlib.Core.List.{List}
@@ -10,6 +10,7 @@ use lib.Dec.{eqb}
 use lib.ListN.{length, getD}
 use borrow.Author.Tests.{eqb-true, ne-eqb}
 use Rattle.words.specs.Among.{beside}
+use Rattle.words.proofs.TestLaws.{true-or-false, else-pick}
 use Rattle.phases.specs.Kind as Kind
 use Rattle.memory.specs.Cycles.{afterByteWrite, afterWordWrite}
 use Rattle.memory.proofs.Keeps.{byte-write-keeps, word-write-keeps}
@@ -17,7 +18,7 @@ use Rattle.bus.specs.Sense.{makesSense}
 use Rattle.bus.specs.Method.{Method, request, look, acknowledge, beginTransferOne, takeBus, beginTransferTwo, giveBack, reset, after as afterMethod}
 use Rattle.bus.specs.declared.state.Bus.{Bus}
 use Rattle.bus.proofs.Kept.{sense-kept, cards-and-pages-kept}
-use Rattle.judgement.specs.Table.{rowOf}
+use Rattle.judgement.specs.Table.{Row, rowIn, rowOf}
 use Rattle.judgement.specs.declared.event.Event.{Event}
 use Rattle.judgement.specs.declared.verdict.Verdict.{Verdict}
 use Rattle.judgement.specs.declared.verdict.Verdict.the-variants.{
@@ -32,11 +33,11 @@ use Rattle.judgement.specs.declared.verdict.Verdict.the-variants.{
   GiveBack,
   Reset,
 }
-use Rattle.judgement.proofs.TableLaws.{cycle-row}
+use Rattle.judgement.proofs.TableLaws.{each-kind, cycle-row, no-row}
 use Rattle.events.specs.Machine.{Machine}
 use Rattle.events.specs.Cycles.{byteOf, memoryLeft, portsLeft}
 use Rattle.events.specs.Step.{stepBy, takenBy, refusalIn, after}
-use Rattle.events.specs.Promises.{SenseKeptByEvents, LengthsKept, CardsAndPagesStay, CyclesKeepTheBus, OthersKeepBytes, OtherBytesStay}
+use Rattle.events.specs.Promises.{OnlyItsCardEnds, SenseKeptByEvents, LengthsKept, CardsAndPagesStay, CyclesKeepTheBus, OthersKeepBytes, OtherBytesStay}
 
 -- what holds of the machine as it was, and of what the kind's step leaves, holds after an event
 pub after-either : (P : Machine → Type 0) (m : Machine) (event : Event) → P m → (refusalIn m event ≡ 0 → P (takenBy (rowOf (event .kind) .step) m event)) → P (after m event)
@@ -79,6 +80,26 @@ pub cycles-keep-the-bus : CyclesKeepTheBus
 cycles-keep-the-bus m event low high =
     after-either (λ (x : Machine). x .bus ≡ m .bus) m event refl
     (λ ok. ap (λ (v : Verdict). stepBy v (m .bus) event) (cycle-row (event .kind) low high .step))
+
+pub only-its-card-ends : OnlyItsCardEnds
+unfolding rowIn
+only-its-card-ends m event p =
+    after-either Ends m event (inl refl)
+    (λ ok.
+    each-kind (λ k. event .kind ≡ k → Ends (takenBy (rowOf (event .kind) .step) m event)) (λ e. inl (rw e)) (λ e. inl (rw (e, p))) (λ e. inl (rw (e, p)))
+    (λ e. inl (rw (e, p)))
+    (λ e. inl (rw (e, p)))
+    (λ e. inl (rw (e, p)))
+    (λ k low high e. inl (ap (λ (q : ℕ). stepBy (rowOf q .step) (m .bus) event) e ∙ ap (λ (v : Verdict). stepBy v (m .bus) event) (cycle-row k low high .step)))
+    (λ e. ⊎-elim (λ same. inr (inl (e, sym (eqb-true _ _ same)))) (λ other. inl (rw (e, p) (sym (else-pick _ other refl)))) (true-or-false (eqb (m .bus .granted) (event .speaker))))
+    (λ e. inl (rw (e, p)))
+    (λ e. inr (inr e))
+    (λ k past e. inl (ap (λ (q : ℕ). stepBy (rowOf q .step) (m .bus) event) e ∙ ap (λ (row : Row). stepBy (row .step) (m .bus) event) (no-row k past)))
+    (event .kind)
+    refl)
+  where
+    Ends : Machine → Type 0
+    Ends x = (x .bus ≡ m .bus) ⊎ (((event .kind ≡ Kind.beginTransferTwo) × (event .speaker ≡ m .bus .granted)) ⊎ (event .kind ≡ Kind.reset))
 
 -- ---- The bytes
 

@@ -9,8 +9,8 @@ use Rattle.words.specs.First.{appliesAs}
 use Rattle.lines.specs.Look.{look}
 use Rattle.phases.specs.Phase as Phase
 use Rattle.phases.specs.Kind as Kind
-use Rattle.phases.specs.Signal.{HOLD, pHLDA, ADSB, SDSB, DODSB, CDSB, SIXTN, sXTRQ, isOn, signalsIn}
-use Rattle.phases.specs.Driver.{noDriver, permanent, card, both, driversIn}
+use Rattle.phases.specs.Signal.{HOLD, pHLDA, ADSB, SDSB, DODSB, CDSB, SIXTN, sXTRQ, disabling, isOn, signalsIn}
+use Rattle.phases.specs.Driver.{allPermanent, changingHands, allCard, driversIn}
 use Rattle.phases.specs.Status.{sMEMR, sM1, sINP, sOUT, sWO}
 use Rattle.memory.specs.declared.Moved.{Moved}
 use Rattle.memory.specs.Halves.{evenHalf, oddHalf, wordOf}
@@ -27,7 +27,7 @@ use Rattle.judgement.specs.Judge.{reasonsAgainst}
 use Rattle.judgement.specs.declared.event.Event.{Event}
 use Rattle.events.specs.Machine.{Machine, machine}
 use Rattle.events.specs.Cycles.{isSixteen}
-use Rattle.events.specs.Answers.{answerWith}
+use Rattle.events.specs.Answers.{answerWith, bare}
 use Rattle.events.specs.Step.{refusalIn, after, answerTo, soundAfter, soundAnswer}
 use Rattle.events.specs.declared.answers.Answer.{Answer}
 
@@ -37,22 +37,18 @@ use Rattle.events.specs.declared.answers.Answer.{Answer}
 abbrev pub RefusedKeeps : Type 0
 RefusedKeeps = (m : Machine) (event : Event) → (refusalIn m event ≡ Refusal.accepted → ⊥) → after m event ≡ m
 
--- a number, and zeros
-abbrev pub onlyNumber : ℕ → Answer
-onlyNumber n = record { refusal = n; phase = 0; granted = 0; lines = 0; signals = 0; status = 0; cycles = 0; datum = 0 }
-
 -- After 01 and 02 everything else in the answer is 0; after a higher number it shows the bus, without status, cycles and datum.
 abbrev pub RefusedAnswers : Type 0
 RefusedAnswers =
     (m : Machine) (event : Event) (n : ℕ) → refusalIn m event ≡ n
-    → ((n ≡ Refusal.wrongBuffers) ⊎ (n ≡ Refusal.senseless) → answerTo m event ≡ onlyNumber n)
+    → ((n ≡ Refusal.wrongBuffers) ⊎ (n ≡ Refusal.senseless) → answerTo m event ≡ bare n)
     × (Refusal.malformed ≤ n → answerTo m event ≡ answerWith n (m .bus) (signalsIn (m .bus .phase)) 0 nothing)
 
 -- The number answered is n exactly where n is among the reasons and every smaller number is not,
 abbrev pub RefusedByNumber : Type 0
 RefusedByNumber =
     (m : Machine) (event : Event) (n : ℕ) → 0 < n
-    → (refusalIn m event ≡ n)
+    → (answerTo m event .refusal ≡ n)
     ↔ ((appliesAs n (reasonsAgainst (m .memory) (m .ports) (m .bus) event) ≡ true)
     × ((k : ℕ) → k < n → appliesAs k (reasonsAgainst (m .memory) (m .ports) (m .bus) event) ≡ false))
 
@@ -60,7 +56,7 @@ RefusedByNumber =
 abbrev pub AcceptedByNone : Type 0
 AcceptedByNone =
     (m : Machine) (event : Event)
-    → (refusalIn m event ≡ Refusal.accepted) ↔ ((n : ℕ) → appliesAs n (reasonsAgainst (m .memory) (m .ports) (m .bus) event) ≡ false)
+    → (answerTo m event .refusal ≡ Refusal.accepted) ↔ ((n : ℕ) → appliesAs n (reasonsAgainst (m .memory) (m .ports) (m .bus) event) ≡ false)
 
 -- what an accepted event has in its fields: no more than its kind lists, a speaker that there is, and a byte where a byte goes
 pub record WellFormed (event : Event) : Type 0 where
@@ -123,20 +119,6 @@ pub record Steps (m : Machine) (event : Event) (bus : Bus) (signals : ℕ) (driv
   pub does : Does m event (machine bus (m .memory) (m .ports)) signals 0 nothing
   pub drives : driversIn (after m event .bus .phase) ≡ drivers
 
--- the drivers of address, status, data-out and control
-abbrev pub allPermanent : List ℕ
-allPermanent = permanent ∷ permanent ∷ permanent ∷ permanent ∷ []
-
-abbrev pub changingHands : List ℕ
-changingHands = noDriver ∷ noDriver ∷ noDriver ∷ both ∷ []
-
-abbrev pub allCard : List ℕ
-allCard = card ∷ card ∷ card ∷ card ∷ []
-
--- the signals of both transfers but for HOLD
-abbrev pub disabling : ℕ
-disabling = pHLDA + ADSB + SDSB + DODSB
-
 -- an accepted event of this kind
 abbrev pub Accepted : ℕ → Machine → Event → Type 0
 Accepted kind m event = (event .kind ≡ kind) × (refusalIn m event ≡ Refusal.accepted)
@@ -165,14 +147,14 @@ LeadsTo phase m event signals drivers =
 
 abbrev pub BeginTransferOneDoes : Type 0
 BeginTransferOneDoes =
-    (m : Machine) (event : Event) → Accepted Kind.beginTransferOne m event → LeadsTo Phase.transferOne m event (HOLD + disabling) changingHands
+    (m : Machine) (event : Event) → Accepted Kind.beginTransferOne m event → LeadsTo Phase.transferOne m event (HOLD + pHLDA + disabling) changingHands
 
 abbrev pub TakeBusDoes : Type 0
-TakeBusDoes = (m : Machine) (event : Event) → Accepted Kind.takeBus m event → LeadsTo Phase.owned m event (HOLD + disabling + CDSB) allCard
+TakeBusDoes = (m : Machine) (event : Event) → Accepted Kind.takeBus m event → LeadsTo Phase.owned m event (HOLD + pHLDA + disabling + CDSB) allCard
 
 abbrev pub BeginTransferTwoDoes : Type 0
 BeginTransferTwoDoes =
-    (m : Machine) (event : Event) → Accepted Kind.beginTransferTwo m event → LeadsTo Phase.transferTwo m event disabling changingHands
+    (m : Machine) (event : Event) → Accepted Kind.beginTransferTwo m event → LeadsTo Phase.transferTwo m event (pHLDA + disabling) changingHands
 
 abbrev pub GiveBackDoes : Type 0
 GiveBackDoes =
@@ -236,12 +218,19 @@ WordWriteDoes =
     sWO
     (inWordCycles sixteen (event .datum))
 
--- In an accepted cycle the speaker drives all four groups of lines: it is the permanent master, or in the owned phase the granted card.
+-- In an accepted cycle the speaker drives all four groups of lines: in phases 0 and 1 it is the permanent master, in phase 4 the granted card.
 abbrev pub SpeakerDrives : Type 0
 SpeakerDrives =
     (m : Machine) (event : Event) → Kind.byteRead ≤ event .kind → event .kind ≤ Kind.output → refusalIn m event ≡ Refusal.accepted
-    → ((event .speaker ≡ permanentMaster) × (driversIn (m .bus .phase) ≡ allPermanent))
-    ⊎ ((event .speaker ≡ m .bus .granted) × (driversIn (m .bus .phase) ≡ allCard))
+    → ((m .bus .phase ≤ Phase.arbitration) × ((event .speaker ≡ permanentMaster) × (driversIn (m .bus .phase) ≡ allPermanent)))
+    ⊎ ((m .bus .phase ≡ Phase.owned) × ((event .speaker ≡ m .bus .granted) × (driversIn (m .bus .phase) ≡ allCard)))
+
+-- A card that owns the bus has it until it begins transfer two itself, or a reset comes.
+abbrev pub OnlyItsCardEnds : Type 0
+OnlyItsCardEnds =
+    (m : Machine) (event : Event) → m .bus .phase ≡ Phase.owned
+    → (after m event .bus ≡ m .bus)
+    ⊎ (((event .kind ≡ Kind.beginTransferTwo) × (event .speaker ≡ m .bus .granted)) ⊎ (event .kind ≡ Kind.reset))
 
 -- ---- A word over either page
 

@@ -83,7 +83,9 @@ fn take_in(
 fn feed_refusal(bus: Bus, text: &[u8], filled: usize, memory: &[u8], ports: &[u8]) -> u8
     ensures { λ r. ⌜ r ≡ feedRefusal bus (now (memory .entry)) (now (ports .entry)) (now (text .entry)) filled ⌝ }
 {
-    if !((memory.len() == 0x10000) & (ports.len() == 0x100)) | (text.len() < filled) {
+    if text.len() < filled {
+        WRONG_LENGTH
+    } else if !((memory.len() == 0x10000) & (ports.len() == 0x100)) {
         WRONG_BUFFERS
     } else if makes_sense(bus) {
         ACCEPTED

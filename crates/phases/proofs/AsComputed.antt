@@ -1,53 +1,21 @@
 -- The tables' entries, by computation.
 use mathlib.Core.Path.{refl}
-use Rattle.words.specs.Among.{isAmong}
+use Rattle.words.specs.Among.{isAmong, beside}
+use Rattle.phases.specs.Signal.{signalsIn}
+use Rattle.phases.specs.Driver.{driversIn}
 use Rattle.phases.specs.Status.{statusOf}
 use Rattle.phases.specs.Control.{strobeOf, controlIn}
-use Rattle.phases.specs.Examples.{DriverTable, SignalTable, StatusTable, ControlTable}
+use Rattle.phases.specs.Examples.{Weights, Tables, ControlTable}
 
-pub driver-table : DriverTable
-driver-table = record {
-  groups = refl;
-  codes = refl;
-  free = refl;
-  arbitration = refl;
-  granted = refl;
-  transferOne = refl;
-  owned = refl;
-  transferTwo = refl;
-  noPhase = refl;
-  noGroup = refl;
-}
+pub weights : Weights
+weights = record { groups = refl; codes = refl; signals = refl; status = refl }
 
-pub signal-table : SignalTable
-signal-table = record {
-  weights = refl;
-  free = refl;
-  arbitration = refl;
-  granted = refl;
-  transferOne = refl;
-  owned = refl;
-  transferTwo = refl;
-  noPhase = refl;
-}
-
-pub status-table : StatusTable
-unfolding isAmong statusOf
-status-table = record {
-  weights = refl;
-  noCycle = refl;
-  byteRead = refl;
-  opcodeFetch = refl;
-  byteWrite = refl;
-  wordRead = refl;
-  wordWrite = refl;
-  input = refl;
-  output = refl;
-  noCycleEither = refl;
-}
+pub tables : Tables
+unfolding beside driversIn signalsIn statusOf
+tables = record { drivers = refl; noGroup = refl; signals = refl; status = refl }
 
 pub control-table : ControlTable
-unfolding isAmong statusOf strobeOf controlIn
+unfolding isAmong beside signalsIn statusOf strobeOf controlIn
 control-table = record {
   weights = refl;
   free = refl;

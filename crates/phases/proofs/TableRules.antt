@@ -1,16 +1,16 @@
 -- The tables of the code as lists, with the rule of each computed over all of its entries, and beyond them over all that a byte can say.
 use Prim.Native.Nat.{ℕ, _+_, _<_, _≤_}
-use mathlib.Core.Path.{_≡_, refl}
+use mathlib.Core.Path.{_≡_, refl, sym}
 use mathlib.Core.Bool.{Bool, true, false, cond}
 use mathlib.Core.List.{List, [], _∷_}
 use native.Mathlib.Omega.{arith}
 use lib.Dec.{lit≤}
-use lib.ListN.{getD}
+use lib.ListN.{length, getD, List·getD-eq-default}
 use Rattle.words.specs.Below.{allBelow}
-use Rattle.words.specs.Among.{isAmong}
+use Rattle.words.specs.Among.{isAmong, beside}
 use Rattle.words.proofs.BelowLaws.{same-below, same-in-rows, none-beyond}
-use Rattle.phases.specs.Signal.{pHLDA, isAcknowledged, signalsIn}
-use Rattle.phases.specs.Driver.{driverOf}
+use Rattle.phases.specs.Signal.{pHLDA, isOn, signalsIn}
+use Rattle.phases.specs.Driver.{driversIn, driverOf}
 use Rattle.phases.specs.Status.{statusOf}
 use Rattle.phases.specs.Control.{allowsCycles, isReading, isWriting, strobeOf}
 
@@ -25,18 +25,27 @@ drivers =
     ∷ []
 
 pub driver-entry : (phase group : ℕ) → phase < 6 → group < 4 → getD (getD drivers phase []) group 0 ≡ driverOf phase group
-unfolding allBelow
+unfolding allBelow beside driversIn
 driver-entry = same-in-rows (λ p g. getD (getD drivers p []) g 0) driverOf 6 4 refl
+
+-- a row has four entries, and there are six rows
+pub driver-no-group : (phase group : ℕ) → phase < 6 → 4 ≤ group → 0 ≡ driverOf phase group
+unfolding allBelow beside driversIn
+driver-no-group phase group h g = sym (List·getD-eq-default (driversIn phase) 0 (omega (arith, same-below (λ p. length (driversIn p)) (λ p. 4) 6 refl phase h)))
+
+pub driver-no-phase : (phase group : ℕ) → 6 ≤ phase → phase < 256 → 0 ≡ driverOf phase group
+unfolding allBelow beside driversIn
+driver-no-phase phase group h l = sym (List·getD-eq-default (driversIn phase) 0 (omega (arith, none-beyond (λ p. length (driversIn p)) 6 250 refl phase h l)))
 
 abbrev pub signals : List ℕ
 signals = 0x00 ∷ 0x01 ∷ 0x03 ∷ 0x1F ∷ 0x3F ∷ 0x1E ∷ []
 
 pub signals-entry : (phase : ℕ) → phase < 6 → getD signals phase 0 ≡ signalsIn phase
-unfolding allBelow
+unfolding allBelow beside signalsIn
 signals-entry = same-below (λ k. getD signals k 0) signalsIn 6 refl
 
 pub signals-beyond : (phase : ℕ) → 6 ≤ phase → phase < 256 → 0 ≡ signalsIn phase
-unfolding allBelow
+unfolding allBelow beside signalsIn
 signals-beyond = none-beyond signalsIn 6 250 refl
 
 abbrev pub status : List ℕ
@@ -44,11 +53,11 @@ status =
     0 ∷ 0 ∷ 0 ∷ 0 ∷ 0 ∷ 0 ∷ 0x01 ∷ 0x03 ∷ 0x10 ∷ 0x01 ∷ 0x10 ∷ 0x04 ∷ 0x18 ∷ 0 ∷ 0 ∷ 0 ∷ []
 
 pub status-entry : (kind : ℕ) → kind < 16 → getD status kind 0 ≡ statusOf kind
-unfolding allBelow isAmong statusOf
+unfolding allBelow beside statusOf
 status-entry = same-below (λ k. getD status k 0) statusOf 16 refl
 
 pub status-beyond : (kind : ℕ) → 16 ≤ kind → kind < 256 → 0 ≡ statusOf kind
-unfolding allBelow isAmong statusOf
+unfolding allBelow beside statusOf
 status-beyond = none-beyond statusOf 16 240 refl
 
 abbrev pub strobes : List ℕ
@@ -63,13 +72,13 @@ unfolding allBelow isAmong strobeOf
 strobe-beyond = none-beyond strobeOf 16 240 refl
 
 -- a strobe and pHLDA together fit a byte
-pub control-fits : (phase kind : ℕ) → cond (allowsCycles phase) (strobeOf kind) 0 + cond (isAcknowledged phase) pHLDA 0 < 256
+pub control-fits : (phase kind : ℕ) → cond (allowsCycles phase) (strobeOf kind) 0 + cond (isOn pHLDA (signalsIn phase)) pHLDA 0 < 256
 unfolding strobeOf
 control-fits phase kind =
     omega (
       arith,
       at-most (allowsCycles phase) (strobeOf kind) 0 (at-most (isReading kind) 8 _ (lit≤ tt) (at-most (isWriting kind) 16 0 (lit≤ tt) (lit≤ tt))) (lit≤ tt),
-      at-most (isAcknowledged phase) pHLDA 0 (lit≤ tt) (lit≤ tt),
+      at-most (isOn pHLDA (signalsIn phase)) pHLDA 0 (lit≤ tt) (lit≤ tt),
     )
   where
     at-most : (b : Bool) (x y : ℕ) → x ≤ 16 → y ≤ 16 → cond b x y ≤ 16

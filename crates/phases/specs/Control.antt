@@ -6,7 +6,7 @@ use lib.Dec.{eqb}
 use Rattle.words.specs.Among.{isAmong}
 use Rattle.phases.specs.Phase as Phase
 use Rattle.phases.specs.Kind as Kind
-use Rattle.phases.specs.Signal.{pHLDA, isOn, isAcknowledged}
+use Rattle.phases.specs.Signal.{pHLDA, isOn, signalsIn}
 use Rattle.phases.specs.Status.{sOUT}
 
 -- ---- Their weights in a byte of their own, which 01 doesn't give: pHLDA keeps the weight that it has among the signals
@@ -44,7 +44,7 @@ strobeOf kind = cond (isReading kind) pDBIN (cond (isWriting kind) pWR 0)
 -- The outputs that are true in a phase, with a cycle of this kind in it. The model has no time within a cycle, so pSYNC and pSTVAL, which mark
 -- its start, are never true.
 unfoldable pub controlIn : ℕ → ℕ → ℕ
-controlIn phase kind = cond (allowsCycles phase) (strobeOf kind) 0 + cond (isAcknowledged phase) pHLDA 0
+controlIn phase kind = cond (allowsCycles phase) (strobeOf kind) 0 + cond (isOn pHLDA (signalsIn phase)) pHLDA 0
 
 -- MWRT, made of pWR and sOUT as they stand on the bus
 abbrev pub isMWRT : ℕ → ℕ → Bool

@@ -1,10 +1,9 @@
 -- Who drives which group of lines (000, 2.8.2.3; 01, "State and phases").
 use Prim.Native.Nat.{ℕ}
-use mathlib.Core.Bool.{Bool, cond, not, _&&_}
 use mathlib.Core.List.{List, [], _∷_}
-use lib.Dec.{eqb, leb}
+use lib.ListN.{getD}
+use Rattle.words.specs.Among.{beside}
 use Rattle.phases.specs.Phase as Phase
-use Rattle.phases.specs.Signal.{isHandedOver, isOwned}
 
 -- ---- The four groups of lines
 
@@ -34,24 +33,30 @@ card = 2
 abbrev pub both : ℕ
 both = 3
 
--- ---- The rule
+-- ---- The table: who drives address, status, data-out and control
 
--- CDSB disables the permanent master's control outputs, the other disable lines its other groups (000, 2.2.7.2)
-abbrev pub permanentDrives : ℕ → ℕ → Bool
-permanentDrives phase group = not (cond (eqb group control) (isOwned phase) (isHandedOver phase))
+abbrev pub allPermanent : List ℕ
+allPermanent = permanent ∷ permanent ∷ permanent ∷ permanent ∷ []
 
--- the card's control outputs are enabled with ADSB, SDSB and DODSB, its other groups with CDSB (000, 2.8.2.3.4)
-abbrev pub cardDrives : ℕ → ℕ → Bool
-cardDrives phase group = cond (eqb group control) (isHandedOver phase) (isOwned phase)
+abbrev pub changingHands : List ℕ
+changingHands = noDriver ∷ noDriver ∷ noDriver ∷ both ∷ []
 
--- in a phase or a group that there is not, nobody drives
+abbrev pub allCard : List ℕ
+allCard = card ∷ card ∷ card ∷ card ∷ []
+
+-- nobody drives in a phase that there is not
+unfoldable pub driversIn : ℕ → List ℕ
+driversIn phase =
+    beside phase (
+    (Phase.free, allPermanent)
+    ∷ (Phase.arbitration, allPermanent)
+    ∷ (Phase.granted, allPermanent)
+    ∷ (Phase.transferOne, changingHands)
+    ∷ (Phase.owned, allCard)
+    ∷ (Phase.transferTwo, changingHands)
+    ∷ []
+    ) []
+
+-- and nobody a group that there is not
 abbrev pub driverOf : ℕ → ℕ → ℕ
-driverOf phase group =
-    cond (leb phase Phase.transferTwo && leb group control)
-    (cond (permanentDrives phase group) (cond (cardDrives phase group) both permanent)
-    (cond (cardDrives phase group) card noDriver))
-    noDriver
-
--- the four groups' drivers in a phase, in 01's order
-abbrev pub driversIn : ℕ → List ℕ
-driversIn phase = driverOf phase address ∷ driverOf phase statusLines ∷ driverOf phase dataOut ∷ driverOf phase control ∷ []
+driverOf phase group = getD (driversIn phase) group noDriver

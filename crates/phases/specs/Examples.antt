@@ -5,51 +5,30 @@ use mathlib.Core.Bool.{true, false}
 use mathlib.Core.List.{List, [], _∷_}
 use lib.ListN.{replicate}
 use Rattle.phases.specs.Phase as Phase
-use Rattle.phases.specs.Signal.{HOLD, pHLDA, ADSB, SDSB, DODSB, CDSB, signalsIn}
+use Rattle.phases.specs.Signal.{HOLD, pHLDA, ADSB, SDSB, DODSB, CDSB, SIXTN, sXTRQ, signalsIn}
 use Rattle.phases.specs.Driver.{address, statusLines, dataOut, control, noDriver, permanent, card, both, driverOf, driversIn}
 use Rattle.phases.specs.Status.{sMEMR, sM1, sINP, sOUT, sWO, statusOf}
 use Rattle.phases.specs.Control.{pSYNC, pSTVAL, pDBIN, pWR, controlIn, isMWRT}
 
--- ---- Who drives address, status, data-out and control (01, "State and phases")
+-- ---- The numbers that 01 gives its codes, its signals ("The program and one whole run") and its status lines
 
-pub record DriverTable : Type 0 where
+pub record Weights : Type 0 where
   pub groups : address ∷ statusLines ∷ dataOut ∷ control ∷ [] ≡ 0 ∷ 1 ∷ 2 ∷ 3 ∷ []
   pub codes : noDriver ∷ permanent ∷ card ∷ both ∷ [] ≡ 0 ∷ 1 ∷ 2 ∷ 3 ∷ []
-  pub free : driversIn Phase.free ≡ permanent ∷ permanent ∷ permanent ∷ permanent ∷ []
-  pub arbitration : driversIn Phase.arbitration ≡ permanent ∷ permanent ∷ permanent ∷ permanent ∷ []
-  pub granted : driversIn Phase.granted ≡ permanent ∷ permanent ∷ permanent ∷ permanent ∷ []
-  pub transferOne : driversIn Phase.transferOne ≡ noDriver ∷ noDriver ∷ noDriver ∷ both ∷ []
-  pub owned : driversIn Phase.owned ≡ card ∷ card ∷ card ∷ card ∷ []
-  pub transferTwo : driversIn Phase.transferTwo ≡ noDriver ∷ noDriver ∷ noDriver ∷ both ∷ []
-  -- no such phase, no such group
-  pub noPhase : driversIn 6 ≡ noDriver ∷ noDriver ∷ noDriver ∷ noDriver ∷ []
-  pub noGroup : driverOf Phase.free 4 ≡ noDriver
+  pub signals : HOLD ∷ pHLDA ∷ ADSB ∷ SDSB ∷ DODSB ∷ CDSB ∷ SIXTN ∷ sXTRQ ∷ []
+      ≡ 0x01 ∷ 0x02 ∷ 0x04 ∷ 0x08 ∷ 0x10 ∷ 0x20 ∷ 0x40 ∷ 0x80 ∷ []
+  pub status : sMEMR ∷ sM1 ∷ sINP ∷ sOUT ∷ sWO ∷ [] ≡ 0x01 ∷ 0x02 ∷ 0x04 ∷ 0x08 ∷ 0x10 ∷ []
 
--- ---- The signals true in each phase (01, "State and phases", with the weights of "The program and one whole run")
+-- ---- The tables as bytes, and beyond their ends
 
-pub record SignalTable : Type 0 where
-  pub weights : HOLD ∷ pHLDA ∷ ADSB ∷ SDSB ∷ DODSB ∷ CDSB ∷ [] ≡ 0x01 ∷ 0x02 ∷ 0x04 ∷ 0x08 ∷ 0x10 ∷ 0x20 ∷ []
-  pub free : signalsIn 0 ≡ 0x00
-  pub arbitration : signalsIn 1 ≡ HOLD
-  pub granted : signalsIn 2 ≡ HOLD + pHLDA
-  pub transferOne : signalsIn 3 ≡ HOLD + pHLDA + ADSB + SDSB + DODSB
-  pub owned : signalsIn 4 ≡ HOLD + pHLDA + ADSB + SDSB + DODSB + CDSB
-  pub transferTwo : signalsIn 5 ≡ pHLDA + ADSB + SDSB + DODSB
-  pub noPhase : signalsIn 6 ≡ 0x00
-
--- ---- The status byte of each kind (01, "Bytes, words, status"; 000, Table 5)
-
-pub record StatusTable : Type 0 where
-  pub weights : sMEMR ∷ sM1 ∷ sINP ∷ sOUT ∷ sWO ∷ [] ≡ 0x01 ∷ 0x02 ∷ 0x04 ∷ 0x08 ∷ 0x10 ∷ []
-  pub noCycle : statusOf 0x05 ≡ 0x00
-  pub byteRead : statusOf 0x06 ≡ sMEMR
-  pub opcodeFetch : statusOf 0x07 ≡ sMEMR + sM1
-  pub byteWrite : statusOf 0x08 ≡ sWO
-  pub wordRead : statusOf 0x09 ≡ sMEMR
-  pub wordWrite : statusOf 0x0A ≡ sWO
-  pub input : statusOf 0x0B ≡ sINP
-  pub output : statusOf 0x0C ≡ sOUT + sWO
-  pub noCycleEither : statusOf 0x0D ≡ 0x00
+pub record Tables : Type 0 where
+  pub drivers : driversIn 0 ∷ driversIn 1 ∷ driversIn 2 ∷ driversIn 3 ∷ driversIn 4 ∷ driversIn 5 ∷ driversIn 6 ∷ []
+      ≡ (1 ∷ 1 ∷ 1 ∷ 1 ∷ []) ∷ (1 ∷ 1 ∷ 1 ∷ 1 ∷ []) ∷ (1 ∷ 1 ∷ 1 ∷ 1 ∷ []) ∷ (0 ∷ 0 ∷ 0 ∷ 3 ∷ []) ∷ (2 ∷ 2 ∷ 2 ∷ 2 ∷ []) ∷ (0 ∷ 0 ∷ 0 ∷ 3 ∷ []) ∷ [] ∷ []
+  pub noGroup : driverOf Phase.free 4 ≡ 0
+  pub signals : signalsIn 0 ∷ signalsIn 1 ∷ signalsIn 2 ∷ signalsIn 3 ∷ signalsIn 4 ∷ signalsIn 5 ∷ signalsIn 6 ∷ []
+      ≡ 0x00 ∷ 0x01 ∷ 0x03 ∷ 0x1F ∷ 0x3F ∷ 0x1E ∷ 0x00 ∷ []
+  pub status : statusOf 0x05 ∷ statusOf 0x06 ∷ statusOf 0x07 ∷ statusOf 0x08 ∷ statusOf 0x09 ∷ statusOf 0x0A ∷ statusOf 0x0B ∷ statusOf 0x0C ∷ statusOf 0x0D ∷ []
+      ≡ 0x00 ∷ 0x01 ∷ 0x03 ∷ 0x10 ∷ 0x01 ∷ 0x10 ∷ 0x04 ∷ 0x18 ∷ 0x00 ∷ []
 
 -- ---- Control outputs and MWRT (000, Table 7, 2.7.4, 2.7.5)
 

@@ -1,8 +1,10 @@
 -- The signals that an answer shows, as 01 weighs them in "The program and one whole run", and those that are true in a phase.
 use Prim.Native.Nat.{ℕ, _+_, _/_, _%_}
-use mathlib.Core.Bool.{Bool, cond}
+use mathlib.Core.Bool.{Bool}
+use mathlib.Core.List.{[], _∷_}
 use lib.Dec.{eqb}
-use Rattle.phases.specs.Phase.{arbitration, granted, transferOne, owned, transferTwo, isFrom}
+use Rattle.words.specs.Among.{beside}
+use Rattle.phases.specs.Phase as Phase
 
 -- the signal of this weight is true in a byte
 abbrev pub isOn : ℕ → ℕ → Bool
@@ -36,27 +38,21 @@ SIXTN = 0x40
 abbrev pub sXTRQ : ℕ
 sXTRQ = 0x80
 
--- ---- Those that go by the phase
+-- ---- Those that go by the phase (01, "State and phases"; where each begins and ends: Promises.SignalSpans)
 
--- HOLD is asserted by the contenders, then by the granted card until transfer two begins (000, 2.8.2.3.6; 001 has its end)
-abbrev pub isHeld : ℕ → Bool
-isHeld phase = isFrom arbitration owned phase
+-- asserted together as transfer one begins
+abbrev pub disabling : ℕ
+disabling = ADSB + SDSB + DODSB
 
--- pHLDA from the acknowledge until the bus is given back (house)
-abbrev pub isAcknowledged : ℕ → Bool
-isAcknowledged phase = isFrom granted transferTwo phase
-
--- ADSB, SDSB and DODSB are asserted together as transfer one begins, and released as transfer two ends (000, 2.8.2.3.4 and 2.8.2.3.6)
-abbrev pub isHandedOver : ℕ → Bool
-isHandedOver phase = isFrom transferOne transferTwo phase
-
--- CDSB ends transfer one, and is released as transfer two begins (000, 2.8.2.3.4 and 2.8.2.3.6)
-abbrev pub isOwned : ℕ → Bool
-isOwned phase = eqb phase owned
-
-abbrev pub signalsIn : ℕ → ℕ
+-- none is true in a phase that there is not
+unfoldable pub signalsIn : ℕ → ℕ
 signalsIn phase =
-    cond (isHeld phase) HOLD 0
-    + cond (isAcknowledged phase) pHLDA 0
-    + cond (isHandedOver phase) (ADSB + SDSB + DODSB) 0
-    + cond (isOwned phase) CDSB 0
+    beside phase (
+    (Phase.free, 0)
+    ∷ (Phase.arbitration, HOLD)
+    ∷ (Phase.granted, HOLD + pHLDA)
+    ∷ (Phase.transferOne, HOLD + pHLDA + disabling)
+    ∷ (Phase.owned, HOLD + pHLDA + disabling + CDSB)
+    ∷ (Phase.transferTwo, pHLDA + disabling)
+    ∷ []
+    ) 0

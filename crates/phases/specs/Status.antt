@@ -1,8 +1,7 @@
 -- The status lines in a cycle, by its kind (000, 2.2.3.2; 01, "Bytes, words, status").
 use Prim.Native.Nat.{ℕ, _+_}
-use mathlib.Core.Bool.{cond}
 use mathlib.Core.List.{[], _∷_}
-use Rattle.words.specs.Among.{isAmong}
+use Rattle.words.specs.Among.{beside}
 use Rattle.phases.specs.Kind as Kind
 
 -- ---- The status signals
@@ -22,11 +21,16 @@ sOUT = 0x08
 abbrev pub sWO : ℕ
 sWO = 0x10
 
--- each is true in these kinds, and in no other
+-- an event that is no cycle has none
 unfoldable pub statusOf : ℕ → ℕ
 statusOf kind =
-    cond (isAmong kind (Kind.byteRead ∷ Kind.opcodeFetch ∷ Kind.wordRead ∷ [])) sMEMR 0
-    + cond (isAmong kind (Kind.opcodeFetch ∷ [])) sM1 0
-    + cond (isAmong kind (Kind.input ∷ [])) sINP 0
-    + cond (isAmong kind (Kind.output ∷ [])) sOUT 0
-    + cond (isAmong kind (Kind.byteWrite ∷ Kind.wordWrite ∷ Kind.output ∷ [])) sWO 0
+    beside kind (
+    (Kind.byteRead, sMEMR)
+    ∷ (Kind.opcodeFetch, sMEMR + sM1)
+    ∷ (Kind.byteWrite, sWO)
+    ∷ (Kind.wordRead, sMEMR)
+    ∷ (Kind.wordWrite, sWO)
+    ∷ (Kind.input, sINP)
+    ∷ (Kind.output, sOUT + sWO)
+    ∷ []
+    ) 0

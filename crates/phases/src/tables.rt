@@ -1,7 +1,7 @@
 // What stands on the lines by phase and by kind of cycle, from constant tables: drivers, signals, status and control outputs.
 ghost use mathlib.Core.Path.{_≡_};
 ghost use mathlib.Core.Bool.{cond};
-ghost use Rattle.phases.specs.Signal.{pHLDA, isAcknowledged, signalsIn};
+ghost use Rattle.phases.specs.Signal.{pHLDA, isOn, signalsIn};
 ghost use Rattle.phases.specs.Driver.{driverOf};
 ghost use Rattle.phases.specs.Status.{statusOf};
 ghost use Rattle.phases.specs.Control.{allowsCycles, strobeOf, controlIn, isMWRT};
@@ -131,9 +131,9 @@ fn strobe_in(phase: u8, kind: u8) -> u8
 }
 
 fn hold_acknowledge(phase: u8) -> u8
-    ensures { λ r. ⌜ r ≡ cond (isAcknowledged phase) pHLDA 0 ⌝ }
+    ensures { λ r. ⌜ r ≡ cond (isOn pHLDA (signalsIn phase)) pHLDA 0 ⌝ }
 {
-    if (GRANTED <= phase) & (phase <= TRANSFER_TWO) {
+    if (signals(phase) / P_HLDA) % 2 == 1 {
         P_HLDA
     } else {
         0

@@ -31,7 +31,7 @@ use Rattle.events.specs.Machine.{Machine}
 use Rattle.events.specs.Step.{stepBy, refusalIn, after}
 use Rattle.events.proofs.TakenLaws.{in-sense, has-passed, phase-allows, leaves-taken}
 use Rattle.events.proofs.EachStep.{acknowledge-does}
-use Rattle.events.proofs.Refused.{refused-keeps, refused-by-number}
+use Rattle.events.proofs.Refused.{refused-keeps, answers-refusal, refused-by-number}
 use Rattle.runs.specs.Run.{Call, machineOf, refusalOn, busAfter, afterAll, isAccepted, acceptedOf, hasKind}
 use Rattle.runs.specs.Promises.{NeverSenseless, GrantedBy, GrantedIsHighest}
 use Rattle.runs.proofs.RunLaws.{after-append, accepted-append, has-append, sense-in-runs}
@@ -183,4 +183,4 @@ never-senseless fitted pages size calls c given = true≢false (sym applies ∙ 
     applies : not (makesSense end) ≡ true
     applies =
         ⊎-elim (λ (t : not (makesSense end) ≡ true). t) (λ f. absurd (true≢false (sym f)))
-        (either-of (not (makesSense end)) false (refused-by-number (machineOf end c) (c .event) Refusal.senseless (lit< tt) .0 given .0))
+        (either-of (not (makesSense end)) false (refused-by-number (machineOf end c) (c .event) Refusal.senseless (lit< tt) .0 (answers-refusal (machineOf end c) (c .event) ∙ given) .0))

@@ -10,6 +10,7 @@ use lib.Seq.{getD-take, getD-drop}
 use borrow.Author.Tests.{eqb-true, ltb-true, eq-eqb, ne-eqb}
 use Rattle.words.specs.First.{firstOf}
 use Rattle.words.proofs.TestLaws.{then-pick, else-pick}
+use Rattle.bus.specs.Refusal.{wrongLength}
 use Rattle.bus.specs.Refusal as Refusal
 use Rattle.bus.specs.Sense.{makesSense}
 use Rattle.bus.specs.declared.state.Bus.{Bus}
@@ -22,7 +23,7 @@ use Rattle.events.specs.declared.answers.Answer.{Answer}
 use Rattle.events.specs.declared.answers.Stepped.{Stepped}
 use Rattle.events.proofs.Refused.{refused-answers}
 use Rattle.s100_c.specs.Layout.{sixteenAt, stateSize, isState, stateBytes, busIn, answerSize, isAnswer, answerBytes}
-use Rattle.s100_c.specs.Calls.{wrongLength, setupFits, Lent, lent, machineIn, placesFit, stepFits, stepAnswers, written, stepLeaves, noField, isSensible}
+use Rattle.s100_c.specs.Calls.{setupFits, Lent, lent, machineIn, placesFit, stepFits, stepAnswers, written, stepLeaves, noField, isSensible}
 
 -- ---- Step
 

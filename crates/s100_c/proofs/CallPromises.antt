@@ -25,7 +25,7 @@ use Rattle.judgement.specs.declared.event.Event.{Event}
 use Rattle.judgement.proofs.Passed.{accepted-call}
 use Rattle.events.specs.Machine.{Machine, machine}
 use Rattle.events.specs.Step.{refusalIn, after, answerTo}
-use Rattle.events.proofs.Refused.{refused-keeps}
+use Rattle.events.proofs.Refused.{refused-keeps, answers-refusal}
 use Rattle.events.proofs.Stays.{sense-kept-by-events}
 use Rattle.s100_c.specs.Layout.{stateSize, isState, stateBytes, busIn, isAnswer, answerIn}
 use Rattle.s100_c.specs.Calls.{Lent, lent, machineIn, placesFit, written, stepLeaves, settleLeaves}
@@ -176,10 +176,6 @@ run-is-the-run (c ∷ calls) state fits =
 
 -- ---- Refused
 
-pub accepted-answers : (m : Machine) (event : Event) → refusalIn m event ≡ Refusal.accepted → answerTo m event .refusal ≡ Refusal.accepted
-unfolding answerTo
-accepted-answers m event ok = rw ok refl
-
 pub step-refused-keeps : StepRefusedKeeps
 step-refused-keeps given event bytes refused = ⊎-elim inPlace (λ misplaced. same (step-misplaced given event misplaced .1)) (true-or-false (placesFit given))
   where
@@ -195,7 +191,7 @@ step-refused-keeps given event bytes refused = ⊎-elim inPlace (λ misplaced. s
         (λ misfit. same (step-misfits given event places misfit .1))
         (λ fits.
         let done = step-leaves given event places fits in
-        let kept = refused-keeps (machineIn given) event (λ ok. refused (sym (placed-answers given event places refl) ∙ accepted-answers (machineIn given) event ok)) in (
+        let kept = refused-keeps (machineIn given) event (λ ok. refused (sym (placed-answers given event places refl) ∙ answers-refusal (machineIn given) event ∙ ok)) in (
           ap (λ (l : Lent). l .state) done
               ∙ ap (λ (m : Machine). stateBytes (m .bus)) kept
               ∙ bytes-read-back (given .state) (places-fit given places .0) bytes .1,

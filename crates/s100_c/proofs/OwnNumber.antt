@@ -10,6 +10,7 @@ use lib.Dec.{eqb, leb, lit≤}
 use borrow.Author.Tests.{leb-true}
 use Rattle.words.specs.First.{Reason, firstOf}
 use Rattle.words.proofs.TestLaws.{true-or-false}
+use Rattle.bus.specs.Refusal.{wrongLength}
 use Rattle.bus.specs.Refusal as Refusal
 use Rattle.bus.specs.Sense.{pagesKnown}
 use Rattle.bus.specs.Setup.{setupOf}
@@ -20,11 +21,11 @@ use Rattle.judgement.specs.declared.event.Event.{Event}
 use Rattle.events.specs.Machine.{Machine}
 use Rattle.events.specs.Step.{refusalIn, answerTo}
 use Rattle.events.specs.declared.answers.Answer.{Answer}
-use Rattle.events.proofs.Refused.{refused-answers}
+use Rattle.events.proofs.Refused.{answers-refusal}
 use Rattle.s100_c.specs.Layout.{isState, busIn}
-use Rattle.s100_c.specs.Calls.{wrongLength, setupFits, machineIn, placesFit}
+use Rattle.s100_c.specs.Calls.{setupFits, machineIn, placesFit}
 use Rattle.s100_c.specs.Promises.{WrongLengthIsOwn}
-use Rattle.s100_c.proofs.CallPromises.{setup-is-the-setup, step-is-the-step, settle-is-the-settle, accepted-answers}
+use Rattle.s100_c.proofs.CallPromises.{setup-is-the-setup, step-is-the-step, settle-is-the-settle}
 
 abbrev allSmall : List Reason → Bool
 allSmall [] = true
@@ -47,17 +48,6 @@ setup-small fitted pages = ⊎-elim (λ known. rw known (lit≤ tt)) (λ unknown
 refusal-small : (m : Machine) (event : Event) → refusalIn m event ≤ 12
 unfolding refusalOf
 refusal-small m event = first-small (reasonsAgainst (m .memory) (m .ports) (m .bus) event) refl
-
--- the number answered is the refusal's
-answers-refusal : (m : Machine) (event : Event) → answerTo m event .refusal ≡ refusalIn m event
-answers-refusal m event = go (ℕ-discrete (refusalIn m event) 0) (decLt 2 (refusalIn m event)) (ℕ-discrete (refusalIn m event) 1)
-  where
-    go : Dec (refusalIn m event ≡ 0) → Dec (2 < refusalIn m event) → Dec (refusalIn m event ≡ 1) → answerTo m event .refusal ≡ refusalIn m event
-    go (yes ok) shown first = accepted-answers m event ok ∙ sym ok
-    go (no other) (yes shown) first = ap (λ (a : Answer). a .refusal) (refused-answers m event (refusalIn m event) refl .1 shown)
-    go (no other) (no bare) (yes first) = ap (λ (a : Answer). a .refusal) (refused-answers m event (refusalIn m event) refl .0 (inl first))
-    go (no other) (no bare) (no later) =
-        ap (λ (a : Answer). a .refusal) (refused-answers m event (refusalIn m event) refl .0 (inr (omega (arith, other, bare, later))))
 
 settle-small : (bus : Bus) (cards : List ℕ) → settleOf bus cards .answer ≤ 12
 unfolding settleOf settleRefusal

@@ -4,6 +4,7 @@ use mathlib.Core.Bool.{Bool, cond, not, _&&_}
 use mathlib.Core.List.{List}
 use lib.Dec.{eqb, ltb}
 use lib.ListN.{length, getD}
+use Rattle.bus.specs.Refusal.{wrongLength}
 use Rattle.bus.specs.Sense.{makesSense}
 use Rattle.bus.specs.Setup.{setupOf}
 use Rattle.bus.specs.Settle.{settleOf}
@@ -13,10 +14,6 @@ use Rattle.judgement.specs.declared.event.Event.{Event}
 use Rattle.events.specs.Machine.{Machine, machine}
 use Rattle.events.specs.Step.{after, answerTo}
 use Rattle.s100_c.specs.Layout.{isState, stateBytes, busIn, isAnswer, answerBytes}
-
--- answered where a state, pages or an answer's place have a wrong length: none of 01's numbers, since 01's first is for memory and ports alone
-abbrev pub wrongLength : ℕ
-wrongLength = 0xFF
 
 -- ---- Setup
 

@@ -4,6 +4,7 @@ use mathlib.Core.Path.{_≡_}
 use mathlib.Core.Bool.{false}
 use mathlib.Core.List.{List, [], _∷_, _++_}
 use lib.ListN.{replicate}
+use Rattle.bus.specs.Refusal.{wrongLength}
 use Rattle.bus.specs.Refusal as Refusal
 use Rattle.bus.specs.State.{stateOf, linesOf}
 use Rattle.bus.specs.declared.state.Bus.{Bus}
@@ -13,7 +14,6 @@ use Rattle.judgement.specs.declared.event.Event.{Event}
 use Rattle.events.specs.declared.answers.Answer.{Answer}
 use Rattle.s100_c.specs.Layout.{stateBytes, busIn, answerBytes, answerIn}
 use Rattle.s100_c.specs.Calls.{
-  wrongLength,
   setupAnswers,
   setupLeaves,
   settleAnswers,

@@ -4,6 +4,7 @@ use mathlib.Core.Path.{_≡_}
 use mathlib.Core.Bool.{true, false}
 use mathlib.Core.List.{List}
 use lib.ListN.{length, getD}
+use Rattle.bus.specs.Refusal.{wrongLength}
 use Rattle.bus.specs.Refusal as Refusal
 use Rattle.bus.specs.Sense.{makesSense}
 use Rattle.bus.specs.Setup.{setupOf}
@@ -16,7 +17,6 @@ use Rattle.events.specs.declared.answers.Answer.{Answer}
 use Rattle.runs.specs.Run.{afterAll}
 use Rattle.s100_c.specs.Layout.{stateSize, isState, stateBytes, busIn, answerSize, answerBytes, answerIn}
 use Rattle.s100_c.specs.Calls.{
-  wrongLength,
   setupFits,
   setupAnswers,
   setupLeaves,

@@ -29,9 +29,6 @@ use sense::setup;
 use settling::settle;
 use stepping::step;
 
-// A buffer of this face has another length than it must have.
-const WRONG_LENGTH: u8 = 0xFF;
-
 #[no_mangle]
 pub extern "C" fn s100_setup(fitted: u16, pages: &[u8], state: &mut [u8]) -> u8
     ensures answers { λ r. ⌜ r ≡ setupAnswers fitted (now (pages .entry)) (now (state .entry)) ⌝ }

@@ -3,9 +3,9 @@ use mathlib.Core.Path.{_≡_, refl, sym, ap, subst, _∙_}
 use mathlib.Core.Logic.{⊎-elim}
 use mathlib.Core.Bool.{Bool, true, false, cond, not, _&&_, _||_}
 use mathlib.Core.List.{List, _++_}
-use Prim.Native.Nat.{ℕ, _-_, _/_, _≤_}
+use Prim.Native.Nat.{ℕ, _-_, _/_, _<_, _≤_}
 use native.Mathlib.Omega.{arith}
-use lib.Dec.{eqb, ltb}
+use lib.Dec.{eqb, ltb, lit<}
 use lib.ListN.{length, getD, take, drop, length-set}
 use lib.Seq.{sets, length-take-le}
 use borrow.Author.Tests.{ltb-true, ltb-false}
@@ -20,7 +20,7 @@ use Rattle.text.specs.Reading.{heldOf}
 use Rattle.text.proofs.DigitLaws.{both-of}
 use Rattle.text.proofs.ReadingLaws.{taken-rest, taken-used}
 use Rattle.session.specs.World.{World, says, turns}
-use Rattle.session.specs.Feeding.{takes, linesFor, linesTaken, feedRefusal, takenFed, heldIn, isEnded, endedText, endedAt}
+use Rattle.session.specs.Feeding.{takes, linesFor, linesTaken, feedRefusal, takenFed, heldIn, wantsNewline, endedText, endedAt}
 use Rattle.session.specs.declared.calls.Fed.{Fed}
 use Rattle.session.specs.declared.calls.TakenLines.{TakenLines}
 use Rattle.session.proofs.SetupLaws.{LinesTaken}
@@ -32,23 +32,23 @@ pub record Sound (bus : Bus) (m p text : List ℕ) (filled : ℕ) : Type 0 where
   pub sense : makesSense bus ≡ true
 
 pub sound : (bus : Bus) (m p text : List ℕ) (filled : ℕ) → feedRefusal bus m p text filled ≡ 0 → Sound bus m p text filled
-sound bus m p text filled e = go (hasWrongBuffers m p || ltb (length text) filled) refl (makesSense bus) refl
+sound bus m p text filled e = go (ltb (length text) filled) refl (hasWrongBuffers m p) refl (makesSense bus) refl
   where
-    number : Bool → Bool → ℕ
-    number wrong sense = cond wrong 1 (cond sense 0 2)
+    number : Bool → Bool → Bool → ℕ
+    number long wrong sense = cond long 0xFF (cond wrong 1 (cond sense 0 2))
 
-    one-is-none : _≡_ {A = ℕ} 1 0 → ⊥
-    one-is-none e = omega (arith, e)
+    not-zero : (n : ℕ) → 0 < n → n ≡ 0 → ⊥
+    not-zero n h e = omega (arith, h, e)
 
-    two-is-none : _≡_ {A = ℕ} 2 0 → ⊥
-    two-is-none e = omega (arith, e)
-
-    go : (wrong : Bool) → (hasWrongBuffers m p || ltb (length text) filled) ≡ wrong → (sense : Bool) → makesSense bus ≡ sense → Sound bus m p text filled
-    go true w s h = absurd (one-is-none (subst (λ (t : Bool). number t (makesSense bus) ≡ 0) w e))
-    go false w true h =
-        let both = neither-of (hasWrongBuffers m p) (ltb (length text) filled) w in
-        record { filled-within = ltb-false (length text) filled (both .1); fit = both .0; sense = h }
-    go false w false h = absurd (two-is-none (subst (λ (t : Bool). number false t ≡ 0) h (subst (λ (t : Bool). number t (makesSense bus) ≡ 0) w e)))
+    go : (long : Bool) → ltb (length text) filled ≡ long → (wrong : Bool) → hasWrongBuffers m p ≡ wrong → (sense : Bool) → makesSense bus ≡ sense
+        → Sound bus m p text filled
+    go true l w f s h = absurd (not-zero 0xFF (lit< tt) (subst (λ (t : Bool). number t (hasWrongBuffers m p) (makesSense bus) ≡ 0) l e))
+    go false l true f s h =
+        absurd (not-zero 1 (lit< tt) (subst (λ (t : Bool). number false t (makesSense bus) ≡ 0) f (subst (λ (t : Bool). number t (hasWrongBuffers m p) (makesSense bus) ≡ 0) l e)))
+    go false l false f true h = record { filled-within = ltb-false (length text) filled l; fit = f; sense = h }
+    go false l false f false h =
+        absurd (not-zero 2 (lit< tt) (subst (λ (t : Bool). number false false t ≡ 0) h
+        (subst (λ (t : Bool). number false t (makesSense bus) ≡ 0) f (subst (λ (t : Bool). number t (hasWrongBuffers m p) (makesSense bus) ≡ 0) l e))))
 
 -- the lines that are used lie in the filled part
 pub used-within : (w : World) (text out : List ℕ) (filled : ℕ) (lines : TakenLines) → filled ≤ length text
@@ -88,10 +88,10 @@ fed-taken w text out filled lines held text' out' m' p' taken count left =
 pub ended-within : (text : List ℕ) (held : ℕ) → held ≤ length text → endedAt text held ≤ length (endedText text held)
 ended-within text held h =
     ⊎-elim
-    (λ (ends : isEnded text held ≡ true).
+    (λ (ends : wantsNewline text held ≡ true).
     rw ends (omega (arith, length-set text held newline, ltb-true held (length text) (both-of (ltb 0 held) (ltb held (length text)) (both-of (ltb 0 held && ltb held (length text)) (not (eqb (getD text (held - 1) 0) newline)) ends .0) .1))))
-    (λ (goes-on : isEnded text held ≡ false). rw goes-on h)
-    (true-or-false (isEnded text held))
+    (λ (goes-on : wantsNewline text held ≡ false). rw goes-on h)
+    (true-or-false (wantsNewline text held))
 
 -- what finish owes, from what take_in left of the text that was ended
 pub finished : (w : World) (text out : List ℕ) (held : ℕ) (text₁ : List ℕ) (filled : ℕ) (fed : Fed) (text' out' m' p' : List ℕ)

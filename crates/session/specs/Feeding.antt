@@ -1,7 +1,7 @@
 -- A call that is given the text read so far: it answers lines that have ended, the setup line alone or as many events as there is room for, and
 -- holds the rest.
 use Prim.Native.Nat.{ℕ, _+_, _-_, _/_, min}
-use mathlib.Core.Bool.{Bool, cond, _||_, _&&_, not}
+use mathlib.Core.Bool.{Bool, cond, _&&_, not}
 use mathlib.Core.List.{List, _++_}
 use lib.Dec.{eqb, ltb}
 use lib.ListN.{length, take, drop, set, getD}
@@ -41,10 +41,11 @@ linesTaken t = record { session = t .state .session; used = t .used; written = l
 abbrev pub eventTaken : Taken World → EventLine
 eventTaken t = record { bus = t .state .session .bus; used = t .used }
 
--- A call is refused as an event would be, for its buffers and for a senseless state; and no text is filled further than it reaches.
+-- No text is filled further than it reaches; then a call is refused as an event would be, for its buffers and for a senseless state.
 abbrev pub feedRefusal : Bus → List ℕ → List ℕ → List ℕ → ℕ → ℕ
 feedRefusal bus memory ports text filled =
-    cond (hasWrongBuffers memory ports || ltb (length text) filled) Refusal.wrongBuffers (cond (makesSense bus) Refusal.accepted Refusal.senseless)
+    cond (ltb (length text) filled) Refusal.wrongLength
+    (cond (hasWrongBuffers memory ports) Refusal.wrongBuffers (cond (makesSense bus) Refusal.accepted Refusal.senseless))
 
 -- ---- What a call tells, and what it leaves: `text` holds `filled` bytes, `out` is the place for the answers
 
@@ -82,14 +83,14 @@ textLeft w text filled out = unlessRefused w text filled (heldIn text (takes (le
 -- ---- At the end of the input
 
 -- It ends a line that is held, where there is one that no newline ends, and room for a newline.
-abbrev pub isEnded : List ℕ → ℕ → Bool
-isEnded text held = ltb 0 held && ltb held (length text) && not (eqb (getD text (held - 1) 0) newline)
+abbrev pub wantsNewline : List ℕ → ℕ → Bool
+wantsNewline text held = ltb 0 held && ltb held (length text) && not (eqb (getD text (held - 1) 0) newline)
 
 abbrev pub endedText : List ℕ → ℕ → List ℕ
-endedText text held = cond (isEnded text held) (set text held newline) text
+endedText text held = cond (wantsNewline text held) (set text held newline) text
 
 abbrev pub endedAt : List ℕ → ℕ → ℕ
-endedAt text held = cond (isEnded text held) (held + 1) held
+endedAt text held = cond (wantsNewline text held) (held + 1) held
 
 -- what is taken then
 abbrev pub takesLast : ℕ → World → List ℕ → ℕ → Taken World

@@ -8,7 +8,7 @@ use Rattle.bus.specs.Settle.{settleOf}
 use Rattle.bus.specs.declared.state.Bus.{Bus}
 use Rattle.bus.specs.declared.settle.Settlement.{Settlement}
 use Rattle.s100_c.specs.Layout.{stateSize, stateBytes}
-use Rattle.s100_c.specs.Calls.{wrongLength}
+use Rattle.bus.specs.Refusal.{wrongLength}
 use Rattle.s100_c.proofs.calls.s100_settle.Statement.{statement}
 use Rattle.s100_c.proofs.calls.s100_settle.Tie as tie
 

@@ -7,7 +7,7 @@ use Rattle.words.proofs.TestLaws.{then-pick, else-pick}
 use Rattle.bus.specs.Setup.{setupOf}
 use Rattle.bus.specs.declared.state.SetupAnswer.{SetupAnswer}
 use Rattle.s100_c.specs.Layout.{stateBytes}
-use Rattle.s100_c.specs.Calls.{wrongLength}
+use Rattle.bus.specs.Refusal.{wrongLength}
 use Rattle.s100_c.proofs.CallLaws.{setup-fits}
 use Rattle.s100_c.proofs.calls.s100_setup.Statement.{statement}
 use Rattle.s100_c.proofs.calls.s100_setup.Tie as tie
