@@ -15,9 +15,8 @@ use Rattle.bus.specs.Setup.{emptyBus, setupOf}
 use Rattle.bus.specs.declared.state.SetupAnswer.{SetupAnswer}
 use Rattle.text.specs.Newlines.{hasNewline, firstLine}
 use Rattle.text.specs.Reading.{heldOf}
-use Rattle.text.proofs.DigitLaws.{both-of}
 use Rattle.text.proofs.NewlineLaws.{unended, line-within}
-use Rattle.words.proofs.TestLaws.{true-or-false}
+use Rattle.words.proofs.TestLaws.{true-or-false, both-of}
 use mathlib.Core.Logic.{⊎-elim}
 
 -- setup of nothing is an empty chassis, whatever it answers

@@ -9,7 +9,7 @@ use lib.Dec.{eqb, ltb, lit<}
 use lib.ListN.{length, getD, take, drop, length-set}
 use lib.Seq.{sets, length-take-le}
 use borrow.Author.Tests.{ltb-true, ltb-false}
-use Rattle.words.proofs.TestLaws.{true-or-false, neither-of}
+use Rattle.words.proofs.TestLaws.{true-or-false, neither-of, both-of}
 use Rattle.bus.specs.Refusal as Refusal
 use Rattle.bus.specs.Sense.{makesSense}
 use Rattle.bus.specs.declared.state.Bus.{Bus}
@@ -17,7 +17,6 @@ use Rattle.judgement.specs.Refusals.{hasWrongBuffers}
 use Rattle.text.specs.Newlines.{newline}
 use Rattle.text.specs.AnswerLine.{answerLength}
 use Rattle.text.specs.Reading.{heldOf}
-use Rattle.text.proofs.DigitLaws.{both-of}
 use Rattle.text.proofs.ReadingLaws.{taken-rest, taken-used}
 use Rattle.session.specs.World.{World, says, turns}
 use Rattle.session.specs.Feeding.{takes, linesFor, linesTaken, feedRefusal, takenFed, heldIn, wantsNewline, endedText, endedAt}

@@ -8,6 +8,7 @@ use lib.Dec.{eqb}
 use lib.ListN.{length}
 use lib.Seq.{sets}
 use borrow.Author.Tests.{eqb-true}
+use Rattle.words.proofs.TestLaws.{both-of}
 use Rattle.bus.specs.Refusal.{badLine}
 use Rattle.bus.specs.Sense.{makesSense}
 use Rattle.judgement.specs.Refusals.{hasWrongBuffers}
@@ -26,7 +27,6 @@ use Rattle.text.specs.Frames.{nextLine}
 use Rattle.text.specs.declared.frames.Line.{Line}
 use Rattle.text.specs.AnswerLine.{answerLine, answerLength, printed}
 use Rattle.text.specs.Reading.{Taken, takenOff}
-use Rattle.text.proofs.DigitLaws.{both-of}
 use Rattle.text.proofs.FrameLaws.{Framed, framed, Spoilt, spoilt, not-ended}
 use Rattle.text.proofs.ReadingLaws.{taken-line, taken-none, none-taken, printed-fits}
 use Rattle.session.specs.World.{World, world, says, turns, saysBy, turnsBy}

@@ -11,7 +11,7 @@ use lib.ListN.{length, take, drop, replicate, length-append, length-replicate, l
 use lib.Seq.{take-all}
 use borrow.Author.Tests.{eqb-true, eq-eqb, ne-eqb}
 use Rattle.words.specs.Among.{everyListed}
-use Rattle.words.proofs.TestLaws.{true-or-false}
+use Rattle.words.proofs.TestLaws.{true-or-false, both-of}
 use Rattle.bus.specs.Refusal as Refusal
 use Rattle.bus.specs.Sense.{makesSense, pagesKnown}
 use Rattle.bus.specs.Setup.{emptyBus}
@@ -28,7 +28,6 @@ use Rattle.text.specs.Frames.{eventDigits, eventIn, setupDigits, setupIn, longe
 use Rattle.text.specs.AnswerLine.{answerLine}
 use Rattle.text.specs.Reading.{answersTo}
 use Rattle.text.specs.declared.frames.SetupLine.{SetupLine}
-use Rattle.text.proofs.DigitLaws.{both-of}
 use Rattle.text.proofs.ReadingLaws.{answer-long}
 use Rattle.session.specs.World.{World, world, says, turns, saysBy, turnsBy, setUpBy, setupAnswer, afterEvent, machineOf, freshWorld}
 use Rattle.session.specs.Output.{answers, output}

@@ -9,14 +9,13 @@ use lib.Dec.{leb, ltb}
 use lib.ListN.{length, take}
 use lib.Seq.{sets, take-at}
 use borrow.Author.Tests.{ltb-true, ltb-false, leb-true, leb-false}
-use Rattle.words.proofs.TestLaws.{true-or-false}
+use Rattle.words.proofs.TestLaws.{true-or-false, both-of}
 use Rattle.bus.specs.declared.state.Bus.{Bus}
 use Rattle.bus.specs.declared.state.SetupAnswer.{SetupAnswer}
 use Rattle.text.specs.Newlines.{newline, hasNewline, firstLine, restOf}
 use Rattle.text.specs.Frames.{setupIn}
 use Rattle.text.specs.AnswerLine.{answerLine, answerLength}
 use Rattle.text.specs.Reading.{Taken, takenOff}
-use Rattle.text.proofs.DigitLaws.{both-of}
 use Rattle.text.proofs.NewlineLaws.{splits, unended, line-within}
 use Rattle.text.proofs.ReadingLaws.{taken-none, none-taken, answer-long}
 use Rattle.session.specs.World.{World, world, says, turns, saysBy, turnsBy, setUpBy, setupAnswer, stageAfter}

@@ -12,17 +12,12 @@ use borrow.Author.Tests.{ltb-true, ltb-false, leb-true, leb-false, le-leb, lt-le
 use Rattle.words.specs.Below.{allBelow}
 use Rattle.words.specs.Among.{everyListed}
 use Rattle.words.proofs.BelowLaws.{same-tests-below}
-use Rattle.words.proofs.TestLaws.{true-or-false, either-of, neither-of, then-pick, else-pick}
+use Rattle.words.proofs.TestLaws.{true-or-false, either-of, neither-of, then-pick, else-pick, both-of}
 use Rattle.words.proofs.ListLaws.{every-at}
 use Rattle.text.specs.Digits.{isDigit, valueOf, digitOf, numberAfter, numberOf, digitsOf}
 use Rattle.text.specs.Frames.{part}
 
 -- ---- One digit
-
-pub both-of : (a b : Bool) → (a && b) ≡ true → (a ≡ true) × (b ≡ true)
-both-of true b e = (refl, e)
-both-of false true e = (e, refl)
-both-of false false e = (e, e)
 
 -- a digit is one of two kinds
 pub digit-kinds : (b : ℕ) → isDigit b ≡ true → ((0x30 ≤ b) × (b ≤ 0x39)) ⊎ ((0x41 ≤ b) × (b ≤ 0x46))

@@ -1,24 +1,26 @@
 -- Where a text begins with a right event line; what else it may begin with.
 use mathlib.Core.Path.{_≡_, refl, sym, ap, subst, _∙_}
-use mathlib.Core.Logic.{⊎-elim}
-use mathlib.Core.Bool.{Bool, true, false, cond, _&&_}
+use mathlib.Core.Logic.{_↔_, ⊎-elim}
+use mathlib.Core.Bool.{Bool, true, false, cond, _&&_, true≢false}
 use mathlib.Core.List.{List, [], _∷_}
-use Prim.Native.Nat.{ℕ, zero, suc, _<_, _≤_}
+use Prim.Native.Nat.{ℕ, zero, suc, _+_, _<_, _≤_}
 use native.Mathlib.Omega.{arith}
 use lib.Dec.{eqb}
 use lib.ListN.{length, getD, take}
 use lib.Seq.{take-at, getD-at, getD-take, length-take-le}
 use borrow.Author.Tests.{eqb-true, eq-eqb, ne-eqb}
 use Rattle.words.specs.Among.{everyListed}
-use Rattle.words.proofs.TestLaws.{true-or-false, tests-same}
+use Rattle.words.proofs.TestLaws.{true-or-false, tests-same, both-of}
 use Rattle.words.proofs.ListLaws.{every-at}
+use Rattle.bus.specs.Refusal.{badLine}
 use Rattle.judgement.specs.declared.event.Event.{Event}
 use Rattle.text.specs.declared.frames.Line.{Line}
 use Rattle.text.specs.declared.frames.Line.the-variants.{Frame, Bad, Unended}
 use Rattle.text.specs.Digits.{isDigit, isDigits}
 use Rattle.text.specs.Newlines.{newline, hasNewline, firstLine, restOf}
-use Rattle.text.specs.Frames.{eventDigits, eventIn, nextLine}
-use Rattle.text.proofs.DigitLaws.{both-of, digit-kinds}
+use Rattle.text.specs.Frames.{eventDigits, eventIn, nextLine, lineNumber, lineBytes}
+use Rattle.text.specs.Promises.{LinesTold}
+use Rattle.text.proofs.DigitLaws.{digit-kinds}
 use Rattle.text.proofs.NewlineLaws.{splits, unended, line-within}
 
 -- no digit ends a line
@@ -144,3 +146,22 @@ not-ended text e = go (hasNewline text) refl (isDigits eventDigits (firstLine te
     go true h true r = absurd (omega (arith, ap sizeFrom (e ∙ next-by text true true h r)))
     go true h false r = absurd (omega (arith, ap sizeFrom (e ∙ next-by text true false h r)))
     go false h right r = h
+
+pub lines-told : LinesTold
+lines-told text = (λ has. rw has (told (isDigits eventDigits (firstLine text)) refl), λ none. rw none refl)
+  where
+    line : Bool → Line
+    line b = cond b (Frame (eventIn (firstLine text))) (Bad (length (firstLine text)))
+
+    no-refusal : _≡_ {A = ℕ} 0x00 0x0C → ⊥
+    no-refusal e = omega (arith, e)
+
+    told : (b : Bool) → isDigits eventDigits (firstLine text) ≡ b
+        → ((lineNumber (line (isDigits eventDigits (firstLine text))) ≡ badLine) ↔ (isDigits eventDigits (firstLine text) ≡ false))
+        × (lineBytes (line (isDigits eventDigits (firstLine text))) ≡ length (firstLine text) + 1)
+    told true e =
+        rw e (
+          (λ n. absurd (no-refusal n), λ f. absurd (true≢false f)),
+          ap (λ (n : ℕ). n + 1) (sym (eqb-true _ _ (both-of (eqb (length (firstLine text)) 14) (everyListed isDigit (firstLine text)) e .0))),
+        )
+    told false e = rw e ((λ n. refl, λ f. refl), refl)

@@ -1,5 +1,5 @@
 -- The setup line and the event line, field by field, and what a text begins with (01, "The program and one whole run").
-use Prim.Native.Nat.{ℕ}
+use Prim.Native.Nat.{ℕ, _+_}
 use mathlib.Core.Bool.{cond}
 use mathlib.Core.List.{List, _++_, map}
 use lib.ListN.{length, take, drop, replicate}
@@ -7,6 +7,7 @@ use Rattle.bus.specs.Refusal.{accepted, badLine}
 use Rattle.judgement.specs.Table.{eventOf}
 use Rattle.judgement.specs.declared.event.Event.{Event}
 use Rattle.text.specs.declared.frames.Line.{Line}
+use Rattle.text.specs.declared.frames.Line.the-variants.{Frame, Bad, Unended}
 use Rattle.text.specs.declared.frames.SetupLine.{SetupLine}
 use Rattle.text.specs.Digits.{valueOf, digitOf, numberOf, digitsOf, isDigits}
 use Rattle.text.specs.Newlines.{hasNewline, firstLine}
@@ -33,6 +34,18 @@ nextLine text =
     cond (hasNewline text)
     (cond (isDigits eventDigits (firstLine text)) (Line.Frame (eventIn (firstLine text))) (Line.Bad (length (firstLine text))))
     Line.Unended
+
+-- its number as 01 has them: 0C for a bad line, while a frame is judged as its event is, and a line that isn't ended is not judged
+abbrev pub lineNumber : Line → ℕ
+lineNumber (Frame event) = accepted
+lineNumber (Bad size) = badLine
+lineNumber Unended = accepted
+
+-- and the bytes that it takes off the text, its newline among them
+abbrev pub lineBytes : Line → ℕ
+lineBytes (Frame event) = eventDigits + 1
+lineBytes (Bad size) = size + 1
+lineBytes Unended = 0
 
 -- ---- The setup line: fitted set 4, then a digit for each page
 

@@ -1,17 +1,28 @@
 -- What is promised of digits, lines and frames. The proof of each stands in proofs/ under its name in lower case, with hyphens.
 use Prim.Native.Nat.{ℕ, _+_, _^_, _<_, _≤_}
 use mathlib.Core.Path.{_≡_}
+use mathlib.Core.Logic.{_↔_}
 use mathlib.Core.Bool.{true, false}
 use mathlib.Core.List.{List, _∷_, _++_}
 use lib.ListN.{length, getD, take}
-use Rattle.bus.specs.Refusal.{accepted}
+use Rattle.bus.specs.Refusal.{accepted, badLine}
 use Rattle.judgement.specs.declared.event.Event.{Event}
 use Rattle.events.specs.declared.answers.Answer.{Answer}
 use Rattle.text.specs.Digits.{isDigit, valueOf, digitOf, numberOf, digitsOf, isDigits}
 use Rattle.text.specs.Newlines.{newline, hasNewline, firstLine, restOf, lastLine, linesOf}
-use Rattle.text.specs.Frames.{eventDigits, eventIn, eventLine, setupIn, setupLine, longest}
+use Rattle.text.specs.Frames.{eventDigits, eventIn, eventLine, nextLine, lineNumber, lineBytes, setupIn, setupLine, longest}
 use Rattle.text.specs.AnswerLine.{answerDigits, answerLine, answerLength, answerIn}
 use Rattle.text.specs.Reading.{answersTo, takenOff, heldOf}
+
+-- ---- What a text begins with
+
+-- A line that is ended is bad exactly if it isn't the right number of digits, and it is taken off with its newline; one that isn't ended stays.
+abbrev pub LinesTold : Type 0
+LinesTold =
+    (text : List ℕ)
+    → (hasNewline text ≡ true
+    → ((lineNumber (nextLine text) ≡ badLine) ↔ (isDigits eventDigits (firstLine text) ≡ false)) × (lineBytes (nextLine text) ≡ length (firstLine text) + 1))
+    × (hasNewline text ≡ false → lineBytes (nextLine text) ≡ 0)
 
 -- ---- What is written reads back
 

@@ -14,6 +14,11 @@ tests-same true b to from = sym (to refl)
 tests-same false true to from = from refl
 tests-same false false to from = refl
 
+pub both-of : (a b : Bool) → (a && b) ≡ true → (a ≡ true) × (b ≡ true)
+both-of true b e = (refl, e)
+both-of false true e = (e, refl)
+both-of false false e = (e, e)
+
 -- three tests that hold together each do
 pub all-three : (a b c : Bool) → (a && b && c) ≡ true → (a ≡ true) × ((b ≡ true) × (c ≡ true))
 all-three true true c e = (refl, (refl, e))

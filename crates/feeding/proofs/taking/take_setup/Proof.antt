@@ -6,7 +6,7 @@ use lib.ListN.{length}
 use lib.Dec.{ltb, leb}
 use lib.Seq.{length-take-le}
 use borrow.Author.Tests.{ltb-true, leb-true}
-use Rattle.text.proofs.DigitLaws.{both-of}
+use Rattle.words.proofs.TestLaws.{both-of}
 use Rattle.text.proofs.ReadingLaws.{printed-fits}
 use Rattle.text.specs.AnswerLine.{printed}
 use Rattle.session.proofs.SetupLaws.{setup-taken, setup-not-taken}
