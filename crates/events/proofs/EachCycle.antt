@@ -49,7 +49,7 @@ module _ (k : ℕ) (m : Machine) (event : Event) (ok : Accepted k m event) where
       let low : a ≤ 0xFFFF = ltb-false _ _ (neither-of _ _ (ap (λ (b : Bool). b && (ltb 0xFFFF a || eqb (pageAt (m .bus .pages) a) 0)) (sym mem) ∙ there .0) .0) in
       omega (arith, low, eqb-true (length (m .memory)) 0x10000 (sizes .0))
 
-  in-ports : Kind.isOfPorts k ≡ true → a < length (m .ports)
+  pub in-ports : Kind.isOfPorts k ≡ true → a < length (m .ports)
   in-ports port =
       let low : a ≤ 0xFF = ltb-false _ _ (ap (λ (b : Bool). b && ltb 0xFF a) (sym port) ∙ there .1) in
       omega (arith, low, eqb-true (length (m .ports)) 0x100 (sizes .1))

@@ -136,6 +136,11 @@ lengths-kept m event =
       ports-either (λ (l : List ℕ). length l ≡ length (m .ports)) event (m .ports) refl (byte-write-keeps (m .ports) (event .address) _ .size),
     ))
 
+-- only an output writes a port
+pub only-outputs : (m : Machine) (event : Event) → (event .kind ≡ Kind.output → ⊥) → after m event .ports ≡ m .ports
+unfolding beside
+only-outputs m event other = after-either (λ (x : Machine). x .ports ≡ m .ports) m event refl (λ ok. rw (ne-eqb (event .kind) Kind.output other))
+
 pub others-keep-bytes : OthersKeepBytes
 unfolding beside
 others-keep-bytes m event outside =

@@ -5,4 +5,5 @@ pub mod AsComputed
 pub mod BusRuns
 pub mod DemandThree
 pub mod Grants
+pub mod Ports
 pub mod RunLaws

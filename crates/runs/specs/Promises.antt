@@ -3,7 +3,7 @@ use Prim.Native.Nat.{ℕ, _<_, _≤_}
 use mathlib.Core.Path.{_≡_}
 use mathlib.Core.Logic.{_↔_}
 use mathlib.Core.Bool.{true, false}
-use mathlib.Core.List.{List, _∷_, _++_}
+use mathlib.Core.List.{List, [], _∷_, _++_}
 use lib.ListN.{length, getD}
 use Rattle.lines.specs.Arbitration.{Contender, Highest}
 use Rattle.phases.specs.Phase as Phase
@@ -17,6 +17,8 @@ use Rattle.judgement.specs.Table.{eventOf}
 use Rattle.judgement.specs.Refusals.{hasWrongBuffers}
 use Rattle.judgement.specs.declared.event.Event.{Event}
 use Rattle.events.specs.Machine.{Machine}
+use Rattle.events.specs.Step.{after, answerTo}
+use Rattle.events.specs.Promises.{Accepted}
 use Rattle.runs.specs.Run.{Call, call, refusalOn, busAfter, afterAll, acceptedOf, hasKind, IsRound, GoesOn, afterEvents, callsOf}
 
 -- ---- Sense
@@ -34,6 +36,20 @@ NeverSenseless =
 -- Events that hand on one memory leave the bus that their calls leave.
 abbrev pub OneMemory : Type 0
 OneMemory = (m : Machine) (events : List Event) → afterEvents m events .bus ≡ afterAll (m .bus) (callsOf m events)
+
+-- ---- Ports (01, "Bytes, words, status")
+
+-- none of these events is an output to this port
+unfoldable pub NoOutputTo : ℕ → List Event → Type 0
+NoOutputTo port [] = Unit {0}
+NoOutputTo port (event ∷ events) = (event .kind ≡ Kind.output → event .address ≡ port → ⊥) × NoOutputTo port events
+
+-- What was written to a port is read there, whatever else comes between.
+abbrev pub PortsHold : Type 0
+PortsHold =
+    (m : Machine) (written : Event) (events : List Event) (read : Event) → Accepted Kind.output m written → NoOutputTo (written .address) events
+    → Accepted Kind.input (afterEvents (after m written) events) read → read .address ≡ written .address
+    → answerTo (afterEvents (after m written) events) read .datum ≡ written .datum
 
 -- ---- Demand 3
 
