@@ -15,7 +15,7 @@ use Rattle.bus.specs.Examples.{RoundsOnTheBus, SettleOnTheBus, SettleRef
 pub rounds-on-the-bus : RoundsOnTheBus
 unfolding allBelow orBelow look everyContender shown looked settled afterLook someCard isWithin afterLooksOf
 rounds-on-the-bus = record {
-  contending = refl;
+  start = refl;
   one = refl;
   two = refl;
   three = refl;

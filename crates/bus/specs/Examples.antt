@@ -22,8 +22,12 @@ use Rattle.bus.specs.declared.state.Bus.{Bus}
 abbrev pub eightBit : List ℕ
 eightBit = replicate 16 1
 
+-- these cards contend, nobody driving
+abbrev pub contending : ℕ → Bus
+contending cards = requested (freeBus 0xFFFF eightBit) cards
+
 abbrev pub fourNineTen : Bus
-fourNineTen = requested (freeBus 0xFFFF eightBit) 0x0610
+fourNineTen = contending 0x0610
 
 abbrev pub first : List ℕ
 first = 4 ∷ 9 ∷ 10 ∷ []
@@ -32,7 +36,7 @@ abbrev pub again : List ℕ
 again = 9 ∷ 10 ∷ 4 ∷ []
 
 pub record RoundsOnTheBus : Type 0 where
-  pub contending : fourNineTen ≡ stateOf 0xFFFF eightBit Phase.arbitration 0x0610 silent nobody
+  pub start : fourNineTen ≡ stateOf 0xFFFF eightBit Phase.arbitration 0x0610 silent nobody
   pub one : linesOf (afterLooksOf fourNineTen first) ≡ 12
   pub two : linesOf (afterLooksOf fourNineTen (first ++ again)) ≡ 8
   pub three : linesOf (afterLooksOf fourNineTen (first ++ again ++ again)) ≡ 11

@@ -147,6 +147,7 @@ module _ (m : Machine) (rest : AtRest m) where
 pub marked : Marked
 unfolding allBelow orBelow look everyContender shown looked settled someCard isWithin isAmong firstOf soundRefusal rowIn busRun looks everyListed drivingFits makesSense leastBelow afterLooksOf settledAfter leadingLooks neverSettles settleRefusal settleOf
 marked = record {
+  starts = (refl, (refl, refl));
   m1 = lines-after first 12 refl;
   m2 = lines-after (first ++ again) 8 refl;
   m3 = lines-after (first ++ again ++ again) 11 refl;

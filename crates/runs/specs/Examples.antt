@@ -10,11 +10,10 @@ use Rattle.phases.specs.Kind as Kind
 use Rattle.cards.specs.Cards.{cardIn}
 use Rattle.bus.specs.Refusal as Refusal
 use Rattle.bus.specs.Sense.{makesSense}
-use Rattle.bus.specs.State.{freeBus, linesOf}
-use Rattle.bus.specs.Steps.{requested}
+use Rattle.bus.specs.State.{nobody, silent, stateOf, freeBus, linesOf}
 use Rattle.bus.specs.Settle.{settleOf}
 use Rattle.bus.specs.declared.state.Bus.{Bus}
-use Rattle.bus.specs.Examples.{eightBit, fourNineTen, first, again}
+use Rattle.bus.specs.Examples.{eightBit, contending, fourNineTen, first, again}
 use Rattle.judgement.specs.Table.{eventOf, permanentMaster}
 use Rattle.judgement.specs.Refusals.{pageAt}
 use Rattle.judgement.specs.declared.event.Event.{Event}
@@ -111,11 +110,12 @@ pub record AtRest (m : Machine) : Type 0 where
 abbrev pub Present : Machine → ℕ → Type 0
 Present m address = eqb (pageAt (m .bus .pages) address) 0 ≡ false
 
--- these cards contend, nobody driving
-abbrev pub alone : ℕ → Bus
-alone cards = requested (freeBus 0xFFFF eightBit) cards
+-- in arbitration, nobody driving
+abbrev pub Silent : ℕ → Bus → Type 0
+Silent cards bus = bus ≡ stateOf 0xFFFF eightBit Phase.arbitration cards silent nobody
 
 pub record Marked : Type 0 where
+  pub starts : Silent 0x0610 fourNineTen × (Silent 0x0001 (contending 0x0001) × Silent 0x0002 (contending 0x0002))
   pub m1 : LinesAfter first 12
   pub m2 : LinesAfter (first ++ again) 8
   pub m3 : LinesAfter (first ++ again ++ again) 11
@@ -124,8 +124,8 @@ pub record Marked : Type 0 where
       × (settleOf fourNineTen (first ++ again ++ again ++ again) .looks ≡ 10)
   pub m6 : settleOf fourNineTen (first ++ again ++ again) .answer ≡ Refusal.unsettled
   -- with looks to spare
-  pub m7 : (settleOf (alone 0x0001) (0 ∷ []) .answer ≡ Refusal.accepted) × (settleOf (alone 0x0001) (0 ∷ []) .looks ≡ 0)
-  pub m8 : (settleOf (alone 0x0002) (1 ∷ 1 ∷ []) .answer ≡ Refusal.accepted) × (settleOf (alone 0x0002) (1 ∷ 1 ∷ []) .looks ≡ 1)
+  pub m7 : (settleOf (contending 0x0001) (0 ∷ []) .answer ≡ Refusal.accepted) × (settleOf (contending 0x0001) (0 ∷ []) .looks ≡ 0)
+  pub m8 : (settleOf (contending 0x0002) (1 ∷ 1 ∷ []) .answer ≡ Refusal.accepted) × (settleOf (contending 0x0002) (1 ∷ 1 ∷ []) .looks ≡ 1)
   -- there are such machines
   pub rest : (memory ports : List ℕ) → Right memory ports → AtRest (machine (freeBus 0xFFFF eightBit) memory ports)
   pub m9 : (m : Machine) → AtRest m → pageAt (m .bus .pages) 0x000002 ≡ 1 → getD (m .memory) 0x000002 0 ≡ 0x12 → getD (m .memory) 0x000003 0 ≡ 0x34
