@@ -10,7 +10,7 @@ use Rattle.cards.specs.Cards.{someCard, isWithin}
 use Rattle.bus.specs.Sense.{drivingFits, makesSense}
 use Rattle.bus.specs.Steps.{afterLooksOf}
 use Rattle.bus.specs.Settle.{settledAfter, leadingLooks, neverSettles, settleRefusal, settleOf}
-use Rattle.bus.specs.Examples.{RoundsOnTheBus, SettleOnTheBus, SettleRefusals, PrintedRun, ZeroAndOwnBits, OutOfTurn, SenseCases}
+use Rattle.bus.specs.Examples.{RoundsOnTheBus, SettleOnTheBus, SettleRefusals, PrintedRun, ZeroAndOwnBits, OutOfTurn, Numbers, SenseCases}
 
 pub rounds-on-the-bus : RoundsOnTheBus
 unfolding allBelow orBelow look everyContender shown looked settled afterLook someCard isWithin afterLooksOf
@@ -77,6 +77,9 @@ out-of-turn = record {
   notYet = refl;
   resetAnyhow = refl;
 }
+
+pub numbers : Numbers
+numbers = record { low = refl; high = refl; none = refl }
 
 pub sense-cases : SenseCases
 unfolding allBelow orBelow look everyContender shown looked settled afterLook someCard isWithin afterLooksOf everyListed drivingFits makesSense

@@ -147,6 +147,14 @@ pub record OutOfTurn : Type 0 where
 
 -- ---- Sense and setup
 
+-- The refusals as 01 numbers them, and the place of nobody.
+pub record Numbers : Type 0 where
+  pub low : Refusal.accepted ∷ Refusal.wrongBuffers ∷ Refusal.senseless ∷ Refusal.malformed ∷ Refusal.namesNobody ∷ Refusal.notFitted ∷ Refusal.wrongPhase ∷ []
+      ≡ 0x00 ∷ 0x01 ∷ 0x02 ∷ 0x03 ∷ 0x04 ∷ 0x05 ∷ 0x06 ∷ []
+  pub high : Refusal.notItsTurn ∷ Refusal.unsettled ∷ Refusal.oddWord ∷ Refusal.absent ∷ Refusal.badPage ∷ Refusal.badLine ∷ []
+      ≡ 0x07 ∷ 0x08 ∷ 0x09 ∷ 0x0A ∷ 0x0B ∷ 0x0C ∷ []
+  pub none : nobody ≡ 0xFF
+
 pub record SenseCases : Type 0 where
   pub atRest : makesSense setUp ≡ true
   pub contending : makesSense (requested setUp 0x000A) ≡ true

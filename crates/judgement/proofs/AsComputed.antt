@@ -7,7 +7,7 @@ use Rattle.lines.specs.Arbitration.{everyContender, shown, looked, settled}
 use Rattle.cards.specs.Cards.{someCard, isWithin}
 use Rattle.judgement.specs.Table.{rowIn}
 use Rattle.judgement.specs.Judge.{soundRefusal}
-use Rattle.judgement.specs.Examples.{kindsBelow, Columns, Fields, Cards, Turns, Addresses}
+use Rattle.judgement.specs.Examples.{kindsBelow, Columns, StepColumn, Fields, Cards, Turns, Addresses}
 
 pub columns : Columns
 unfolding rowIn kindsBelow
@@ -38,11 +38,16 @@ pub cards : Cards
 unfolding rowIn firstOf soundRefusal allBelow someCard isWithin
 cards = record { request = refl; nobody = refl; unfitted = refl; look = refl; cycle = refl; giveBack = refl; lastCard = refl; master = refl; masterLooks = refl; masterLooksThen = refl }
 
+pub step-column : StepColumn
+unfolding rowIn
+step-column = record { asking = refl; cycles = refl; ending = refl }
+
 pub turns : Turns
 unfolding rowIn firstOf soundRefusal allBelow orBelow look everyContender shown looked settled someCard isWithin
 turns = record {
   lookWhenFree = refl;
   look = refl;
+  idleLook = refl;
   secondRequest = refl;
   requestInTransferTwo = refl;
   acknowledge = refl;

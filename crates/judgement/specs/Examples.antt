@@ -7,6 +7,17 @@ use lib.ListN.{replicate, set}
 use Rattle.phases.specs.Phase as Phase
 use Rattle.bus.specs.State.{freeBus, nobody, silent, stateOf}
 use Rattle.bus.specs.declared.state.Bus.{Bus}
+use Rattle.judgement.specs.declared.verdict.Verdict.the-variants.{
+  Request,
+  Look,
+  Acknowledge,
+  BeginTransferOne,
+  TakeBus,
+  Cycle,
+  BeginTransferTwo,
+  GiveBack,
+  Reset,
+}
 use Rattle.judgement.specs.Table.{eventOf, rowOf, listsSpeaker, listsAddress, listsDatum}
 use Rattle.judgement.specs.Judge.{soundRefusal}
 
@@ -32,6 +43,14 @@ pub record Columns : Type 0 where
   pub owned : kindsOf (λ k. rowOf k .allows Phase.owned) ≡ 0x0F ∷ 0x0D ∷ 0x0C ∷ 0x0B ∷ 0x0A ∷ 0x09 ∷ 0x08 ∷ 0x07 ∷ 0x06 ∷ []
   pub transferTwo : kindsOf (λ k. rowOf k .allows Phase.transferTwo) ≡ 0x0F ∷ 0x0E ∷ []
 
+-- the step of each kind
+pub record StepColumn : Type 0 where
+  pub asking : rowOf 0x01 .step ∷ rowOf 0x02 .step ∷ rowOf 0x03 .step ∷ rowOf 0x04 .step ∷ rowOf 0x05 .step ∷ []
+      ≡ Request ∷ Look ∷ Acknowledge ∷ BeginTransferOne ∷ TakeBus ∷ []
+  pub cycles : rowOf 0x06 .step ∷ rowOf 0x07 .step ∷ rowOf 0x08 .step ∷ rowOf 0x09 .step ∷ rowOf 0x0A .step ∷ rowOf 0x0B .step ∷ rowOf 0x0C .step ∷ []
+      ≡ replicate 7 Cycle
+  pub ending : rowOf 0x0D .step ∷ rowOf 0x0E .step ∷ rowOf 0x0F .step ∷ [] ≡ BeginTransferTwo ∷ GiveBack ∷ Reset ∷ []
+
 -- ---- States: cards 1 and 3 fitted; page 0 has eight bits, page 1 sixteen, and there are no others
 
 abbrev pub codes : List ℕ
@@ -50,6 +69,9 @@ settled = stateOf 0x000A codes Phase.arbitration 0x000A (set silent 3 3) nobody
 -- card 0, fitted instead, contends alone, and the lines stay at 0
 abbrev pub zeroAlone : Bus
 zeroAlone = stateOf 0x0001 codes Phase.arbitration 0x0001 silent nobody
+
+abbrev pub threeAlone : Bus
+threeAlone = stateOf 0x000A codes Phase.arbitration 0x0008 silent nobody
 
 -- card 3 is granted, in this phase
 abbrev pub threeGranted : ℕ → Bus
@@ -97,6 +119,8 @@ pub record Cards : Type 0 where
 pub record Turns : Type 0 where
   pub lookWhenFree : judged free 0x02 1 0 0 ≡ 0x06
   pub look : judged settled 0x02 1 0 0 ≡ 0x00
+  -- card 1 is fitted, and card 3 contends alone
+  pub idleLook : judged threeAlone 0x02 1 0 0 ≡ 0x07
   pub secondRequest : judged settled 0x01 0 0 0x0002 ≡ 0x06
   pub requestInTransferTwo : judged (threeGranted Phase.transferTwo) 0x01 0 0 0x0002 ≡ 0x06
   pub acknowledge : judged settled 0x03 0 0 0 ≡ 0x00

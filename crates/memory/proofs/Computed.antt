@@ -21,6 +21,7 @@ written-at-two = record {
 pub nothing-there : NothingThere
 unfolding byteRead byteWrite wordRead wordWrite afterWordWrite
 nothing-there = record {
+  none = refl;
   oddRead = refl;
   oddWrite = refl;
   oddLeft = refl;

@@ -29,6 +29,7 @@ pub record WrittenAtTwo : Type 0 where
 
 -- Address 1 is odd, at 4 only the word's even byte is there, and 5 is past the end.
 pub record NothingThere : Type 0 where
+  pub none : nothing ≡ record { datum = 0; cycles = 0 }
   pub oddRead : wordRead false holding 1 ≡ nothing
   pub oddWrite : wordWrite true other 1 0x1234 ≡ nothing
   pub oddLeft : afterWordWrite true other 1 0x1234 ≡ other

@@ -5,10 +5,13 @@ use Rattle.phases.specs.Signal.{signalsIn}
 use Rattle.phases.specs.Driver.{driversIn}
 use Rattle.phases.specs.Status.{statusOf}
 use Rattle.phases.specs.Control.{strobeOf, controlIn}
-use Rattle.phases.specs.Examples.{Weights, Tables, ControlTable}
+use Rattle.phases.specs.Examples.{Weights, Cycles, Tables, ControlTable}
 
 pub weights : Weights
-weights = record { groups = refl; codes = refl; signals = refl; status = refl }
+weights = record { phases = refl; asking = refl; cycles = refl; ending = refl; groups = refl; codes = refl; signals = refl; status = refl }
+
+pub cycles : Cycles
+cycles = record { memory = refl; words = refl; ports = refl }
 
 pub tables : Tables
 unfolding beside driversIn signalsIn statusOf
@@ -19,6 +22,7 @@ unfolding isAmong beside signalsIn statusOf strobeOf controlIn
 control-table = record {
   weights = refl;
   free = refl;
+  arbitration = refl;
   granted = refl;
   transferOne = refl;
   owned = refl;

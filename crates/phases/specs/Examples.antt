@@ -1,23 +1,39 @@
 -- The tables of 01 and 000, entry by entry.
 use Prim.Native.Nat.{ℕ, _+_}
 use mathlib.Core.Path.{_≡_}
-use mathlib.Core.Bool.{true, false}
+use mathlib.Core.Bool.{Bool, true, false}
 use mathlib.Core.List.{List, [], _∷_}
 use lib.ListN.{replicate}
 use Rattle.phases.specs.Phase as Phase
+use Rattle.phases.specs.Kind as Kind
 use Rattle.phases.specs.Signal.{HOLD, pHLDA, ADSB, SDSB, DODSB, CDSB, SIXTN, sXTRQ, signalsIn}
 use Rattle.phases.specs.Driver.{address, statusLines, dataOut, control, noDriver, permanent, card, both, driverOf, driversIn}
 use Rattle.phases.specs.Status.{sMEMR, sM1, sINP, sOUT, sWO, statusOf}
 use Rattle.phases.specs.Control.{pSYNC, pSTVAL, pDBIN, pWR, controlIn, isMWRT}
 
--- ---- The numbers that 01 gives its codes, its signals ("The program and one whole run") and its status lines
+-- ---- The numbers that 01 gives its phases, its kinds, its codes, its signals ("The program and one whole run") and its status lines
 
 pub record Weights : Type 0 where
+  pub phases : Phase.free ∷ Phase.arbitration ∷ Phase.granted ∷ Phase.transferOne ∷ Phase.owned ∷ Phase.transferTwo ∷ [] ≡ 0 ∷ 1 ∷ 2 ∷ 3 ∷ 4 ∷ 5 ∷ []
+  pub asking : Kind.request ∷ Kind.look ∷ Kind.acknowledge ∷ Kind.beginTransferOne ∷ Kind.takeBus ∷ [] ≡ 0x01 ∷ 0x02 ∷ 0x03 ∷ 0x04 ∷ 0x05 ∷ []
+  pub cycles : Kind.byteRead ∷ Kind.opcodeFetch ∷ Kind.byteWrite ∷ Kind.wordRead ∷ Kind.wordWrite ∷ Kind.input ∷ Kind.output ∷ []
+      ≡ 0x06 ∷ 0x07 ∷ 0x08 ∷ 0x09 ∷ 0x0A ∷ 0x0B ∷ 0x0C ∷ []
+  pub ending : Kind.beginTransferTwo ∷ Kind.giveBack ∷ Kind.reset ∷ [] ≡ 0x0D ∷ 0x0E ∷ 0x0F ∷ []
   pub groups : address ∷ statusLines ∷ dataOut ∷ control ∷ [] ≡ 0 ∷ 1 ∷ 2 ∷ 3 ∷ []
   pub codes : noDriver ∷ permanent ∷ card ∷ both ∷ [] ≡ 0 ∷ 1 ∷ 2 ∷ 3 ∷ []
   pub signals : HOLD ∷ pHLDA ∷ ADSB ∷ SDSB ∷ DODSB ∷ CDSB ∷ SIXTN ∷ sXTRQ ∷ []
       ≡ 0x01 ∷ 0x02 ∷ 0x04 ∷ 0x08 ∷ 0x10 ∷ 0x20 ∷ 0x40 ∷ 0x80 ∷ []
   pub status : sMEMR ∷ sM1 ∷ sINP ∷ sOUT ∷ sWO ∷ [] ≡ 0x01 ∷ 0x02 ∷ 0x04 ∷ 0x08 ∷ 0x10 ∷ []
+
+-- ---- Which cycles are of the memory, of words, and of ports: of the kinds from 05 to 0D, in their order
+
+abbrev pub fiveToD : (ℕ → Bool) → List Bool
+fiveToD test = test 0x05 ∷ test 0x06 ∷ test 0x07 ∷ test 0x08 ∷ test 0x09 ∷ test 0x0A ∷ test 0x0B ∷ test 0x0C ∷ test 0x0D ∷ []
+
+pub record Cycles : Type 0 where
+  pub memory : fiveToD Kind.isOfMemory ≡ false ∷ true ∷ true ∷ true ∷ true ∷ true ∷ false ∷ false ∷ false ∷ []
+  pub words : fiveToD Kind.isWord ≡ false ∷ false ∷ false ∷ false ∷ true ∷ true ∷ false ∷ false ∷ false ∷ []
+  pub ports : fiveToD Kind.isOfPorts ≡ false ∷ false ∷ false ∷ false ∷ false ∷ false ∷ true ∷ true ∷ false ∷ []
 
 -- ---- The tables as bytes, and beyond their ends
 
@@ -41,6 +57,7 @@ controlsIn phase =
 pub record ControlTable : Type 0 where
   pub weights : pSYNC ∷ pHLDA ∷ pSTVAL ∷ pDBIN ∷ pWR ∷ [] ≡ 0x01 ∷ 0x02 ∷ 0x04 ∷ 0x08 ∷ 0x10 ∷ []
   pub free : controlsIn Phase.free ≡ pDBIN ∷ pDBIN ∷ pWR ∷ pDBIN ∷ pWR ∷ pDBIN ∷ pWR ∷ []
+  pub arbitration : controlsIn Phase.arbitration ≡ pDBIN ∷ pDBIN ∷ pWR ∷ pDBIN ∷ pWR ∷ pDBIN ∷ pWR ∷ []
   pub granted : controlsIn Phase.granted ≡ replicate 7 pHLDA
   pub transferOne : controlsIn Phase.transferOne ≡ replicate 7 pHLDA
   pub owned : controlIn Phase.owned 0x06 ∷ controlIn Phase.owned 0x08 ∷ [] ≡ (pDBIN + pHLDA) ∷ (pWR + pHLDA) ∷ []

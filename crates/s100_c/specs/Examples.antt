@@ -75,7 +75,7 @@ pub record FieldsInPlace : Type 0 where
   pub empty : entryOf (λ bus. bus .pages) [] 0 ≡ noField
   -- cards 2, 4, 8, 9 and 12 contend here and drive 17h, 19h, 1Dh, 1Eh and 21h
   pub lines : fieldOf linesOf placed ≡ 0x3F
-  pub noLines : fieldOf linesOf [] ≡ noField
+  pub noLines : fieldOf linesOf [] ≡ 0xFFFFFFFF
   pub senseless : isSensible placed ≡ false
   pub noSense : isSensible [] ≡ false
 

@@ -4,11 +4,13 @@ use Rattle.words.specs.Below.{allBelow, orBelow}
 use Rattle.words.specs.Among.{everyListed, beside}
 use Rattle.lines.specs.Arbitration.{shown}
 use Rattle.phases.specs.Signal.{signalsIn}
+use Rattle.cards.specs.Cards.{someCard, isWithin}
+use Rattle.bus.specs.Sense.{drivingFits, makesSense}
 use Rattle.text.specs.Digits.{numberAfter, digitsOf}
 use Rattle.text.specs.Newlines.{linesAfter, lastLine}
 use Rattle.text.specs.Reading.{answersTo}
 use Rattle.session.specs.World.{saysBy, turnsBy, freshWorld}
-use Rattle.session.specs.Examples.{SetupOutputs, BadLineOutputs}
+use Rattle.session.specs.Examples.{SetupOutputs, BadLineOutputs, FreshSession, CallRefusals}
 
 pub setup-outputs : SetupOutputs
 unfolding beside signalsIn everyListed allBelow orBelow shown numberAfter digitsOf linesAfter lastLine answersTo saysBy turnsBy freshWorld
@@ -17,3 +19,10 @@ setup-outputs = record { accepted = refl; unended = refl; page = refl; tooShort 
 pub bad-line-outputs : BadLineOutputs
 unfolding beside signalsIn everyListed allBelow orBelow shown numberAfter digitsOf linesAfter lastLine answersTo saysBy turnsBy freshWorld
 bad-line-outputs = record { each = refl }
+
+pub fresh-session : FreshSession
+fresh-session = record { waits = refl; noCards = refl; noPages = refl }
+
+pub call-refusals : CallRefusals
+unfolding allBelow everyListed someCard isWithin drivingFits makesSense
+call-refusals = record { full = λ m p fit. rw fit; tooFull = refl; noMemory = refl; noSense = λ m p fit. rw fit }

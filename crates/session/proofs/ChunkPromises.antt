@@ -23,7 +23,7 @@ use Rattle.session.specs.World.{World, world, says, turns, saysBy, event
 use Rattle.session.specs.Feeding.{takes, linesFor, feedRefusal, takesLast, endedText, endedAt}
 use Rattle.session.specs.Output.{answers}
 use Rattle.session.specs.Chunks.{Run, fedWith, fedAll, wholeText, begun}
-use Rattle.session.specs.Promises.{AnyChunks, CallsGoOn, FedInPlace, RoomToRead, FinishedInPlace, WholeRun}
+use Rattle.session.specs.Promises.{AnyChunks, CallsGoOn, FedInPlace, FeedRefused, RoomToRead, FinishedInPlace, WholeRun}
 use Rattle.session.specs.declared.state.Stage.{Stage}
 use Rattle.session.specs.declared.state.Stage.the-variants.{Awaiting, Running, Ended}
 use Rattle.session.proofs.CallLaws.{held-within}
@@ -159,6 +159,9 @@ held-less n w text size some short long =
     (λ (none : hasNewline text ≡ false).
     rw (taken-none says turns n w text none) (omega (arith, held-is-short text none, long)))
     (true-or-false (hasNewline text))
+
+pub feed-refused : FeedRefused
+feed-refused w text filled out n given other = rw (given, ne-eqb n Refusal.accepted other) (refl, (refl, (refl, refl)))
 
 pub room-to-read : RoomToRead
 room-to-read w text filled out accepted goes long room =

@@ -1,9 +1,19 @@
 -- Outputs of short texts, from the first line on.
 use Prim.Native.Nat.{ℕ}
 use mathlib.Core.Path.{_≡_}
+use mathlib.Core.Bool.{false}
 use mathlib.Core.List.{List, [], _∷_, _++_}
+use lib.ListN.{replicate}
+use Rattle.phases.specs.Phase as Phase
+use Rattle.bus.specs.State.{nobody, silent, changed}
+use Rattle.bus.specs.Setup.{emptyBus}
+use Rattle.bus.specs.declared.state.Bus.{Bus}
+use Rattle.judgement.specs.Refusals.{hasWrongBuffers}
 use Rattle.text.specs.Newlines.{newline}
+use Rattle.session.specs.World.{fresh}
+use Rattle.session.specs.Feeding.{feedRefusal}
 use Rattle.session.specs.Output.{output}
+use Rattle.session.specs.declared.state.Stage.the-variants.{Awaiting}
 
 -- a setup line: cards 1 and 3, page 0 of eight bits, page 1 of sixteen (01's printed run)
 abbrev pub setup : List ℕ
@@ -42,3 +52,19 @@ pub record SetupOutputs : Type 0 where
 -- After setup each bad line has its answer: an empty one, one like a setup line, and an unended one.
 pub record BadLineOutputs : Type 0 where
   pub each : output (setup ++ newline ∷ newline ∷ setup ++ newline ∷ 0x30 ∷ []) ≡ free ++ lineRefused ++ lineRefused ++ lineRefused
+
+-- ---- A session before its first line, and the refusals of a call
+
+pub record FreshSession : Type 0 where
+  pub waits : fresh .stage ≡ Awaiting
+  pub noCards : fresh .bus .fitted ≡ 0
+  pub noPages : fresh .bus .pages ≡ replicate 16 0
+
+abbrev pub senseless : Bus
+senseless = changed emptyBus Phase.owned 0 silent nobody
+
+pub record CallRefusals : Type 0 where
+  pub full : (memory ports : List ℕ) → hasWrongBuffers memory ports ≡ false → feedRefusal emptyBus memory ports (replicate 3 0x30) 3 ≡ 0x00
+  pub tooFull : feedRefusal senseless [] [] (replicate 3 0x30) 4 ≡ 0xFF
+  pub noMemory : feedRefusal senseless [] [] (replicate 3 0x30) 3 ≡ 0x01
+  pub noSense : (memory ports : List ℕ) → hasWrongBuffers memory ports ≡ false → feedRefusal senseless memory ports (replicate 3 0x30) 3 ≡ 0x02

@@ -114,6 +114,15 @@ FedInPlace =
     × ((take (fedOf w text filled out .held) (textLeft w text filled out) ≡ heldOf (takes (length out) w (take filled text) .rest))
     × (worldLeft w text filled out ≡ takes (length out) w (take filled text) .state))
 
+-- A call that is given more text than there is, buffers of wrong lengths or a senseless bus says so, in this order, and does nothing: all text
+-- stays held, and no answer is written.
+abbrev pub FeedRefused : Type 0
+FeedRefused =
+    (w : World) (text : List ℕ) (filled : ℕ) (out : List ℕ) (n : ℕ) → feedRefusal (w .session .bus) (w .memory) (w .ports) text filled ≡ n
+    → (n ≡ Refusal.accepted → ⊥)
+    → (fedOf w text filled out ≡ record { refusal = n; session = w .session; held = filled; written = 0 })
+    × ((worldLeft w text filled out ≡ w) × ((textLeft w text filled out ≡ text) × (outLeft w text filled out ≡ out)))
+
 -- After it there is room to read more, where the run goes on, the text is longer than what is held of an unended line, and an answer had room.
 abbrev pub RoomToRead : Type 0
 RoomToRead =

@@ -40,7 +40,7 @@ setup-lines = record { right = refl; anEvent = refl; tooLong = refl }
 
 pub answer-in-place : AnswerInPlace
 unfolding digitsOf
-answer-in-place = record { printed = refl }
+answer-in-place = record { line = refl; room = refl; behind = refl; tooShort = refl }
 
 pub lines-of-texts : LinesOfTexts
 unfolding linesAfter lastLine

@@ -3,7 +3,7 @@ use Prim.Native.Nat.{ℕ}
 use mathlib.Core.Path.{_≡_}
 use mathlib.Core.Bool.{true, false}
 use mathlib.Core.List.{List, [], _∷_, _++_}
-use lib.ListN.{replicate}
+use lib.ListN.{drop, replicate}
 use Rattle.bus.specs.Refusal.{accepted, badLine}
 use Rattle.judgement.specs.Table.{eventOf}
 use Rattle.events.specs.declared.answers.Answer.{Answer}
@@ -11,7 +11,7 @@ use Rattle.text.specs.declared.frames.Line.{Line}
 use Rattle.text.specs.Digits.{isDigit, valueOf, digitOf, isDigits}
 use Rattle.text.specs.Newlines.{newline, linesOf}
 use Rattle.text.specs.Frames.{eventIn, setupIn, nextLine}
-use Rattle.text.specs.AnswerLine.{answerLine}
+use Rattle.text.specs.AnswerLine.{answerLine, printed, bytesPut}
 use Rattle.text.specs.Reading.{heldOf}
 
 -- ---- Digits, and the bytes beside them
@@ -78,8 +78,12 @@ eachDigit = record {
 }
 
 pub record AnswerInPlace : Type 0 where
-  pub printed : answerLine eachDigit
+  pub line : answerLine eachDigit
       ≡ 0x31 ∷ 0x32 ∷ 0x33 ∷ 0x34 ∷ 0x35 ∷ 0x36 ∷ 0x37 ∷ 0x38 ∷ 0x39 ∷ 0x41 ∷ 0x42 ∷ 0x43 ∷ 0x44 ∷ 0x45 ∷ 0x46 ∷ 0x30 ∷ 0x31 ∷ 0x32 ∷ 0x0A ∷ []
+  -- it takes nineteen bytes at the front, and a shorter place is left alone
+  pub room : bytesPut (replicate 20 0) ∷ bytesPut (replicate 19 0) ∷ bytesPut (replicate 18 0) ∷ [] ≡ 19 ∷ 19 ∷ 0 ∷ []
+  pub behind : drop 19 (printed eachDigit (replicate 20 0x55)) ≡ 0x55 ∷ []
+  pub tooShort : printed eachDigit (replicate 18 0x55) ≡ replicate 18 0x55
 
 -- ---- Lines
 

@@ -1,11 +1,12 @@
 -- The words at small numbers, computed.
+use Prim.Native.Nat.{ℕ}
 use mathlib.Core.Path.{_≡_, refl}
 use mathlib.Core.Bool.{true, false}
 use mathlib.Core.List.{List, [], _∷_}
 use lib.Dec.{leb, ltb}
 use Rattle.words.specs.Bits.{bitAt}
 use Rattle.words.specs.Below.{allBelow, orBelow}
-use Rattle.words.specs.Among.{isAmong, everyListed}
+use Rattle.words.specs.Among.{isAmong, everyListed, beside}
 use Rattle.words.specs.First.{Reason, reason, firstOf, appliesAs, ascendsFrom, leastBelow}
 
 -- 10 has its ones at the places 3 and 1
@@ -26,6 +27,12 @@ or-of-few = (refl, refl, refl)
 pub nine-among : (isAmong 9 (4 ∷ 9 ∷ 10 ∷ []) ≡ true) × (isAmong 3 (4 ∷ 9 ∷ 10 ∷ []) ≡ false) × (isAmong 11 (4 ∷ 9 ∷ 10 ∷ []) ≡ false)
 unfolding isAmong
 nine-among = (refl, refl, refl)
+
+-- 40 stands beside 4, and nothing beside 5
+pub forty-beside : let listed : List (ℕ × ℕ) = (3, 30) ∷ (4, 40) ∷ (6, 60) ∷ [] in
+    (_≡_ {A = ℕ} (beside 4 listed 0) 40) × (_≡_ {A = ℕ} (beside 3 listed 0) 30) × (_≡_ {A = ℕ} (beside 5 listed 7) 7)
+unfolding beside
+forty-beside = (refl, refl, refl)
 
 -- every number in the list 0, 2 is at most 2, and not every one in 0, 3
 pub two-at-most : (everyListed (λ n. leb n 2) (0 ∷ 2 ∷ []) ≡ true) × (everyListed (λ n. leb n 2) (0 ∷ 3 ∷ []) ≡ false)
