@@ -305,11 +305,11 @@ fn bytes() {
         b"bytes: 56 written at 3 and read there, beyond the end; a word at an odd address, and at the last byte",
     );
     let mut m: [u8; 5] = [0xEE; 5];
-    show_moved(memory::byte_write(&mut m, 3, 0x56));
-    show_moved(memory::byte_read(&m, 3));
-    show_moved(memory::byte_read(&m, 5));
-    show_moved(memory::word_write(&mut m, 1, 0x1234, true));
-    show_moved(memory::word_read(&m, 4, false));
+    show_moved(moving::byte_write(&mut m, 3, 0x56));
+    show_moved(moving::byte_read(&m, 3));
+    show_moved(moving::byte_read(&m, 5));
+    show_moved(moving::word_write(&mut m, 1, 0x1234, true));
+    show_moved(moving::word_read(&m, 4, false));
     put(m[1]);
     put(m[2]);
     put(m[3]);
@@ -320,14 +320,14 @@ fn bytes() {
 // 1234 written at 2 among six bytes of EE, which are then read back: as bytes, and as a word over either page.
 fn at_two(sixteen: bool) {
     let mut m: [u8; 6] = [0xEE; 6];
-    show_moved(memory::word_write(&mut m, 2, 0x1234, sixteen));
+    show_moved(moving::word_write(&mut m, 2, 0x1234, sixteen));
     put(m[1]);
     put(m[2]);
     put(m[3]);
     put(m[4]);
     end_line();
-    show_moved(memory::word_read(&m, 2, false));
-    show_moved(memory::word_read(&m, 2, true));
+    show_moved(moving::word_read(&m, 2, false));
+    show_moved(moving::word_read(&m, 2, true));
 }
 
 fn words() {

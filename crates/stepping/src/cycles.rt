@@ -3,10 +3,10 @@ ghost use mathlib.Core.Path.{_≡_};
 ghost use Rattle.events.specs.Cycles.{movedBy, memoryLeft, portsLeft};
 use judgement::Event;
 use memory::Moved;
-use memory::byte_read;
-use memory::byte_write;
-use memory::word_read;
-use memory::word_write;
+use moving::byte_read;
+use moving::byte_write;
+use moving::word_read;
+use moving::word_write;
 use phases::numbers::*;
 
 // `sixteen` says that the page has sixteen bits.

@@ -4,9 +4,9 @@ use mathlib.Core.Path.{sym}
 use lib.Seq.{set-out}
 use borrow.Author.Needs.{needs}
 use borrow.Author.Tests.{lt-ltb, le-ltb}
 use Rattle.memory.specs.Cycles.{byteWrite}
-use Rattle.memory.proofs.byte_write.Statement.{statement}
-use Rattle.memory.proofs.byte_write.Tie as tie
+use Rattle.moving.proofs.byte_write.Statement.{statement}
+use Rattle.moving.proofs.byte_write.Tie as tie
 
 pub byte-write-spec : {M : Type 1} → statement M
 unfolding byteWrite

@@ -4,10 +4,10 @@ use mathlib.Core.Path.{sym, _∙_}
 use native.Mathlib.Omega.{arith}
 use lib.ListN.{length}
 use borrow.Author.Needs.{needs}
 use Rattle.memory.proofs.WordLaws.{word-ends, no-word-read}
 use Rattle.memory.proofs.PairLaws.{part-read}
-use Rattle.memory.proofs.word_read.Statement.{statement}
-use Rattle.memory.proofs.word_read.Tie as tie
+use Rattle.moving.proofs.word_read.Statement.{statement}
+use Rattle.moving.proofs.word_read.Tie as tie
 
 pub word-read-spec : {M : Type 1} → statement M
 word-read-spec =
@@ -24,5 +24,5 @@ word-read-spec =
     (λ c.
     let called = c .before .before in
     let here = sym (called .before .word-fits .ensures) ∙ called .if1 .taken in
-    c .get-word .ensures ∙ part-read _ _ _ here)
+    c .word-read-pair .ensures ∙ part-read _ _ _ here)
     (λ c. sym (no-word-read _ _ _ (sym (c .before .word-fits .ensures) ∙ c .if1 .left))))

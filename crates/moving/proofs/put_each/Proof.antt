@@ -6,15 +6,15 @@ use Prim.Native.Nat.{ℕ}
 use native.Mathlib.Omega.{arith}
 use borrow.Author.Needs.{needs}
 use borrow.Author.Tests.{lt-ltb, le-ltb}
 use Rattle.memory.specs.Halves.{oddHalf}
 use Rattle.memory.specs.Cycles.{together, byteWrite, afterByteWrite}
 use Rattle.memory.proofs.OneByte.{OneByte, byte-write-one}
 use Rattle.memory.proofs.WordLaws.{word-write-serial, after-word-is, no-word-write, no-word-after}
-use Rattle.memory.proofs.put_each.Statement.{statement}
-use Rattle.memory.proofs.put_each.Tie as tie
-use Rattle.memory.proofs.put_each.Reads as reads
-use Rattle.memory.proofs.put_each.Lts as lts
-use Rattle.memory.proofs.byte_write.Reads as byte-write-reads
+use Rattle.moving.proofs.put_each.Statement.{statement}
+use Rattle.moving.proofs.put_each.Tie as tie
+use Rattle.moving.proofs.put_each.Reads as reads
+use Rattle.moving.proofs.put_each.Lts as lts
+use Rattle.moving.proofs.byte_write.Reads as byte-write-reads
 
 -- what the two cycles moved, once the second has taken place
 both-bytes :

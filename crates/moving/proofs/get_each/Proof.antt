@@ -4,14 +4,14 @@ use mathlib.Core.Path.{sym, ap₂, _∙_}
 use native.Mathlib.Omega.{arith}
 use borrow.Author.Needs.{needs}
 use borrow.Author.Tests.{lt-ltb, le-ltb}
 use Rattle.memory.specs.Cycles.{together}
 use Rattle.memory.proofs.OneByte.{OneByte, byte-read-one}
 use Rattle.memory.proofs.WordLaws.{word-read-serial, no-word-read}
-use Rattle.memory.proofs.get_each.Statement.{statement}
-use Rattle.memory.proofs.get_each.Tie as tie
-use Rattle.memory.proofs.get_each.Reads as reads
-use Rattle.memory.proofs.get_each.Lts as lts
-use Rattle.memory.proofs.byte_read.Reads as byte-read-reads
+use Rattle.moving.proofs.get_each.Statement.{statement}
+use Rattle.moving.proofs.get_each.Tie as tie
+use Rattle.moving.proofs.get_each.Reads as reads
+use Rattle.moving.proofs.get_each.Lts as lts
+use Rattle.moving.proofs.byte_read.Reads as byte-read-reads
 
 -- what the two cycles moved, once the second has taken place
 both-bytes :

@@ -2,8 +2,8 @@
 -- Assumes nothing.
 use borrow.Author.Needs.{needs}
 use borrow.Author.Tests.{eq-eqb, ne-eqb}
-use Rattle.memory.proofs.word_fits.Statement.{statement}
-use Rattle.memory.proofs.word_fits.Tie as tie
+use Rattle.moving.proofs.word_fits.Statement.{statement}
+use Rattle.moving.proofs.word_fits.Tie as tie
 
 pub word-fits-spec : {M : Type 1} → statement M
 word-fits-spec =

@@ -5,9 +5,9 @@ use native.Mathlib.Omega.{arith}
 use mir.Facts.{fits-8-16}
 use borrow.Author.Needs.{needs}
 use borrow.Author.Tests.{lt-ltb, le-ltb}
 use Rattle.memory.proofs.WordLaws.{word-read-is, no-word-read}
-use Rattle.memory.proofs.get_both.Statement.{statement}
-use Rattle.memory.proofs.get_both.Tie as tie
+use Rattle.moving.proofs.get_both.Statement.{statement}
+use Rattle.moving.proofs.get_both.Tie as tie
 
 pub get-both-spec : {M : Type 1} → statement M
 get-both-spec =

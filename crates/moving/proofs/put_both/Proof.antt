@@ -3,9 +3,9 @@
 use mathlib.Core.Path.{sym}
 use borrow.Author.Needs.{needs}
 use borrow.Author.Tests.{lt-ltb, le-ltb}
 use Rattle.memory.proofs.WordLaws.{word-write-is, after-word-is, no-word-write, no-word-after}
-use Rattle.memory.proofs.put_both.Statement.{statement}
-use Rattle.memory.proofs.put_both.Tie as tie
+use Rattle.moving.proofs.put_both.Statement.{statement}
+use Rattle.moving.proofs.put_both.Tie as tie
 
 pub put-both-spec : {M : Type 1} → statement M
 put-both-spec =

@@ -1,11 +1,11 @@
--- `memory::put_word` meets its contract: either way has the word's own.
+-- `memory::word_write_pair` meets its contract: either way has the word's own.
 -- Assumes nothing.
 use borrow.Author.Needs.{needs}
-use Rattle.memory.proofs.put_word.Statement.{statement}
-use Rattle.memory.proofs.put_word.Tie as tie
+use Rattle.moving.proofs.word_write_pair.Statement.{statement}
+use Rattle.moving.proofs.word_write_pair.Tie as tie
 
-pub put-word-spec : {M : Type 1} → statement M
-put-word-spec =
+pub word-write-pair-spec : {M : Type 1} → statement M
+word-write-pair-spec =
     tie.close
     (tie.spec
     (λ c κs. search needs)

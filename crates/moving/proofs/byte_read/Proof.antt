@@ -3,9 +3,9 @@
 use mir.Facts.{fits-8-16}
 use borrow.Author.Needs.{needs}
 use borrow.Author.Tests.{lt-ltb, le-ltb}
 use Rattle.memory.specs.Cycles.{byteRead}
-use Rattle.memory.proofs.byte_read.Statement.{statement}
-use Rattle.memory.proofs.byte_read.Tie as tie
+use Rattle.moving.proofs.byte_read.Statement.{statement}
+use Rattle.moving.proofs.byte_read.Tie as tie
 
 pub byte-read-spec : {M : Type 1} → statement M
 unfolding byteRead

@@ -6,10 +6,10 @@ use native.Mathlib.Omega.{arith}
 use lib.ListN.{length}
 use borrow.Author.Needs.{needs}
 use borrow.Rule.Slice.PartMut.{putMid}
 use Rattle.memory.proofs.WordLaws.{word-ends, no-word-write, no-word-after}
 use Rattle.memory.proofs.PairLaws.{part-write, part-home}
-use Rattle.memory.proofs.word_write.Statement.{statement}
-use Rattle.memory.proofs.word_write.Tie as tie
+use Rattle.moving.proofs.word_write.Statement.{statement}
+use Rattle.moving.proofs.word_write.Tie as tie
 
 pub word-write-spec : {M : Type 1} → statement M
 word-write-spec =
@@ -30,8 +30,8 @@ word-write-spec =
     let start = asked .before .before .before in
     let a = start .args .at in
     let here = sym (asked .before .word-fits .ensures) ∙ asked .if1 .taken in (
-      lent .put-word .ensures .0 ∙ part-write _ _ _ here _,
-      ap (putMid a (a + 2 - a) (start .args .m .now)) (lent .put-word .ensures .1) ∙ part-home _ _ _ here _,
+      lent .word-write-pair .ensures .0 ∙ part-write _ _ _ here _,
+      ap (putMid a (a + 2 - a) (start .args .m .now)) (lent .word-write-pair .ensures .1) ∙ part-home _ _ _ here _,
     ))
     (λ c.
     let none = sym (c .before .word-fits .ensures) ∙ c .if1 .left in
