@@ -79,7 +79,7 @@ out-of-turn = record {
 }
 
 pub numbers : Numbers
-numbers = record { low = refl; high = refl; none = refl }
+numbers = record { low = refl; high = refl; none = refl; own = refl }
 
 pub sense-cases : SenseCases
 unfolding allBelow orBelow look everyContender shown looked settled afterLook someCard isWithin afterLooksOf everyListed drivingFits makesSense

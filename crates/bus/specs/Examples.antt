@@ -154,6 +154,8 @@ pub record Numbers : Type 0 where
   pub high : Refusal.notItsTurn ∷ Refusal.unsettled ∷ Refusal.oddWord ∷ Refusal.absent ∷ Refusal.badPage ∷ Refusal.badLine ∷ []
       ≡ 0x07 ∷ 0x08 ∷ 0x09 ∷ 0x0A ∷ 0x0B ∷ 0x0C ∷ []
   pub none : nobody ≡ 0xFF
+  -- not among them
+  pub own : Refusal.wrongLength ≡ 0xFF
 
 pub record SenseCases : Type 0 where
   pub atRest : makesSense setUp ≡ true

@@ -7,7 +7,7 @@ use Rattle.lines.specs.Arbitration.{everyContender, shown, looked, settled}
 use Rattle.cards.specs.Cards.{someCard, isWithin}
 use Rattle.judgement.specs.Table.{rowIn}
 use Rattle.judgement.specs.Judge.{soundRefusal}
-use Rattle.judgement.specs.Examples.{kindsBelow, Columns, StepColumn, Fields, Cards, Turns, Addresses}
+use Rattle.judgement.specs.Examples.{kindsBelow, Columns, StepColumn, Fields, Cards, Order, Turns, Addresses}
 
 pub columns : Columns
 unfolding rowIn kindsBelow
@@ -41,6 +41,20 @@ cards = record { request = refl; nobody = refl; unfitted = refl; look = refl; cy
 pub step-column : StepColumn
 unfolding rowIn
 step-column = record { asking = refl; cycles = refl; ending = refl }
+
+pub order : Order
+unfolding rowIn firstOf soundRefusal allBelow orBelow look everyContender shown looked settled someCard isWithin
+order = record {
+  strayNobody = refl;
+  strayUnfitted = refl;
+  strayUnsettled = refl;
+  nobodyLater = refl;
+  unfittedLater = refl;
+  idleTooEarly = refl;
+  oddOfACard = refl;
+  absentOfACard = refl;
+  oddAndAbsent = refl;
+}
 
 pub turns : Turns
 unfolding rowIn firstOf soundRefusal allBelow orBelow look everyContender shown looked settled someCard isWithin

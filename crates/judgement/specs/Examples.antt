@@ -116,6 +116,18 @@ pub record Cards : Type 0 where
   pub masterLooks : judged free 0x02 0x10 0 0 ≡ 0x06
   pub masterLooksThen : judged settled 0x02 0x10 0 0 ≡ 0x07
 
+-- Where two reasons apply, the lower number is given.
+pub record Order : Type 0 where
+  pub strayNobody : judged free 0x01 1 0 0x0000 ≡ 0x03
+  pub strayUnfitted : judged free 0x06 2 0 1 ≡ 0x03
+  pub strayUnsettled : judged unsettled 0x03 1 0 0 ≡ 0x03
+  pub nobodyLater : judged settled 0x01 0 0 0x0000 ≡ 0x04
+  pub unfittedLater : judged settled 0x01 0 0 0x0004 ≡ 0x05
+  pub idleTooEarly : judged free 0x02 1 0 0 ≡ 0x06
+  pub oddOfACard : judged free 0x09 1 0x001001 0 ≡ 0x07
+  pub absentOfACard : judged free 0x06 1 0x002000 0 ≡ 0x07
+  pub oddAndAbsent : judged free 0x09 0x10 0x002001 0 ≡ 0x09
+
 pub record Turns : Type 0 where
   pub lookWhenFree : judged free 0x02 1 0 0 ≡ 0x06
   pub look : judged settled 0x02 1 0 0 ≡ 0x00

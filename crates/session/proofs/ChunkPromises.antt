@@ -1,12 +1,13 @@
 -- A text in chunks, and what the functions do with their buffers.
 use mathlib.Core.Path.{_≡_, refl, sym, ap, subst, _∙_}
-use mathlib.Core.Logic.{⊎-elim}
-use mathlib.Core.Bool.{true, false}
+use mathlib.Core.Logic.{_⊎_, inl, inr, ⊎-elim}
+use mathlib.Core.Bool.{Bool, true, false, not, _&&_}
 use mathlib.Core.List.{List, [], _∷_, _++_, append-nil, append-assoc}
 use Prim.Native.Nat.{ℕ, zero, suc, _+_, _*_, _-_, _/_, _<_, _≤_}
 use native.Mathlib.Omega.{arith}
 use lib.ListN.{length, getD, take, drop, set, length-append, length-drop}
 use lib.Seq.{sets, sets-eq, take-append-seam, take-suc-set, getD-take, length-take-le}
+use lib.Dec.{eqb, ltb}
 use borrow.Author.Tests.{eq-eqb, ne-eqb, lt-ltb, le-ltb}
 use Rattle.words.proofs.TestLaws.{true-or-false}
 use Rattle.bus.specs.Refusal as Refusal
@@ -20,10 +21,10 @@ use Rattle.text.proofs.NewlineLaws.{none-at}
 use Rattle.text.proofs.LinePromises.{taken-is-the-whole, held-is-enough, held-is-short, line-unended, ended-line, no-newline, last-of, last-none}
 use Rattle.text.proofs.ReadingLaws.{taken-line, taken-none, none-taken, answer-long, taken-rest, taken-used}
 use Rattle.session.specs.World.{World, world, says, turns, saysBy, eventAnswer, machineOf, setupAnswer, setUpBy}
-use Rattle.session.specs.Feeding.{takes, linesFor, feedRefusal, takesLast, endedText, endedAt}
+use Rattle.session.specs.Feeding.{takes, linesFor, feedRefusal, takesLast, wantsNewline, endedText, endedAt}
 use Rattle.session.specs.Output.{answers}
 use Rattle.session.specs.Chunks.{Run, fedWith, fedAll, wholeText, begun}
-use Rattle.session.specs.Promises.{AnyChunks, CallsGoOn, FedInPlace, FeedRefused, RoomToRead, FinishedInPlace, WholeRun}
+use Rattle.session.specs.Promises.{AnyChunks, CallsGoOn, FedInPlace, FeedRefused, FinishRefused, NothingToEnd, RoomToRead, FinishedInPlace, WholeRun}
 use Rattle.session.specs.declared.state.Stage.{Stage}
 use Rattle.session.specs.declared.state.Stage.the-variants.{Awaiting, Running, Ended}
 use Rattle.session.proofs.CallLaws.{held-within}
@@ -162,6 +163,25 @@ held-less n w text size some short long =
 
 pub feed-refused : FeedRefused
 feed-refused w text filled out n given other = rw (given, ne-eqb n Refusal.accepted other) (refl, (refl, (refl, refl)))
+
+pub finish-refused : FinishRefused
+finish-refused w text held out n given other = rw (given, ne-eqb n Refusal.accepted other) (refl, (refl, (refl, refl)))
+
+pub nothing-to-end : NothingToEnd
+nothing-to-end w text held out none = rw (wanted none) (refl, (refl, (refl, refl)))
+  where
+    wanted : (held ≡ 0) ⊎ ((length text ≤ held) ⊎ (getD text (held - 1) 0 ≡ newline)) → wantsNewline text held ≡ false
+    wanted (inl empty) = rw empty
+    wanted (inr (inl full)) = rw (le-ltb held (length text) full) (third (ltb 0 held))
+      where
+        third : (b : Bool) → (b && false && not (eqb (getD text (held - 1) 0) newline)) ≡ false
+        third true = refl
+        third false = refl
+    wanted (inr (inr ended)) = rw (eq-eqb _ _ ended) (last (ltb 0 held && ltb held (length text)))
+      where
+        last : (b : Bool) → (b && false) ≡ false
+        last true = refl
+        last false = refl
 
 pub room-to-read : RoomToRead
 room-to-read w text filled out accepted goes long room =

@@ -1,5 +1,5 @@
 -- What is promised of a run of the text program. The proof of each stands in proofs/ under its name in lower case, with hyphens.
-use Prim.Native.Nat.{ℕ, _+_, _*_, _<_, _≤_}
+use Prim.Native.Nat.{ℕ, _+_, _-_, _*_, _<_, _≤_}
 use mathlib.Core.Path.{_≡_}
 use mathlib.Core.Logic.{_⊎_}
 use mathlib.Core.Bool.{true, false, cond}
@@ -20,7 +20,7 @@ use Rattle.text.specs.Frames.{eventDigits, eventIn, setupIn, longest}
 use Rattle.text.specs.AnswerLine.{answerLine, answerLength}
 use Rattle.text.specs.Reading.{heldOf}
 use Rattle.session.specs.World.{World, world, says, turns, setUpBy, freshWorld}
-use Rattle.session.specs.Feeding.{takes, feedRefusal, fedOf, textLeft, outLeft, worldLeft, finishedOf, finishedOut}
+use Rattle.session.specs.Feeding.{takes, feedRefusal, fedOf, textLeft, outLeft, worldLeft, finishedOf, finishedText, finishedOut, finishedWorld}
 use Rattle.session.specs.Output.{answers, output}
 use Rattle.session.specs.Chunks.{fedAll, wholeText, begun}
 use Rattle.session.specs.declared.state.Stage.the-variants.{Awaiting, Running, Ended}
@@ -123,7 +123,23 @@ FeedRefused =
     → (fedOf w text filled out ≡ record { refusal = n; session = w .session; held = filled; written = 0 })
     × ((worldLeft w text filled out ≡ w) × ((textLeft w text filled out ≡ text) × (outLeft w text filled out ≡ out)))
 
--- After it there is room to read more, where the run goes on, the text is longer than what is held of an unended line, and an answer had room.
+-- and so does finish.
+abbrev pub FinishRefused : Type 0
+FinishRefused =
+    (w : World) (text : List ℕ) (held : ℕ) (out : List ℕ) (n : ℕ) → feedRefusal (w .session .bus) (w .memory) (w .ports) text held ≡ n
+    → (n ≡ Refusal.accepted → ⊥)
+    → (finishedOf w text held out ≡ record { refusal = n; session = w .session; held = held; written = 0 })
+    × ((finishedWorld w text held out ≡ w) × ((finishedText w text held out ≡ text) × (finishedOut w text held out ≡ out)))
+
+-- Where nothing is held, or the text has no room for a newline, or one ends what is held, the end of the input adds nothing.
+abbrev pub NothingToEnd : Type 0
+NothingToEnd =
+    (w : World) (text : List ℕ) (held : ℕ) (out : List ℕ) → (held ≡ 0) ⊎ ((length text ≤ held) ⊎ (getD text (held - 1) 0 ≡ newline))
+    → (finishedOf w text held out ≡ fedOf w text held out)
+    × ((finishedWorld w text held out ≡ worldLeft w text held out)
+    × ((finishedText w text held out ≡ textLeft w text held out) × (finishedOut w text held out ≡ outLeft w text held out)))
+
+-- After a feed there is room to read more, where the run goes on, the text is longer than what is held of an unended line, and an answer had room.
 abbrev pub RoomToRead : Type 0
 RoomToRead =
     (w : World) (text : List ℕ) (filled : ℕ) (out : List ℕ) → feedRefusal (w .session .bus) (w .memory) (w .ports) text filled ≡ Refusal.accepted
