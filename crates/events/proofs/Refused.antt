@@ -23,7 +23,7 @@ use Rattle.judgement.proofs.Passed.{passed, accepted-call, sound-call}
 use Rattle.events.specs.Machine.{Machine}
 use Rattle.events.specs.Answers.{answerWith, bare, refusedWith}
 use Rattle.events.specs.Step.{answerBy, refusalIn, after, answerTo, soundAfter, soundAnswer}
-use Rattle.events.specs.Promises.{RefusedKeeps, RefusedAnswers, RefusedByNumber, AcceptedByNone, SoundStepIsTheStep, RequestInTransferTwo, RequestTooEarly, AcceptedIsWellFormed}
+use Rattle.events.specs.Promises.{RefusedKeeps, RefusedAnswers, RefusedByNumber, AcceptedByNone, SoundStepIsTheStep, RequestInTransferTwo, RequestTooEarly, onlyNumber, AcceptedIsWellFormed}
 
 pub refused-keeps : RefusedKeeps
 unfolding after
@@ -37,7 +37,7 @@ answer-refused m event n e other = rw (e, ne-eqb n 0 other)
 pub refused-answers : RefusedAnswers
 refused-answers m event n given = (alone, shown)
   where
-    alone : (n ≡ Refusal.wrongBuffers) ⊎ (n ≡ Refusal.senseless) → answerTo m event ≡ bare n
+    alone : (n ≡ Refusal.wrongBuffers) ⊎ (n ≡ Refusal.senseless) → answerTo m event ≡ onlyNumber n
     alone (inl e) = answer-refused m event n given (λ z. omega (arith, z, e)) ∙ rw e
     alone (inr e) = answer-refused m event n given (λ z. omega (arith, z, e)) ∙ rw e
 

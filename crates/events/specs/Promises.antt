@@ -27,7 +27,7 @@ use Rattle.judgement.specs.Judge.{reasonsAgainst}
 use Rattle.judgement.specs.declared.event.Event.{Event}
 use Rattle.events.specs.Machine.{Machine, machine}
 use Rattle.events.specs.Cycles.{isSixteen}
-use Rattle.events.specs.Answers.{answerWith, bare}
+use Rattle.events.specs.Answers.{answerWith}
 use Rattle.events.specs.Step.{refusalIn, after, answerTo, soundAfter, soundAnswer}
 use Rattle.events.specs.declared.answers.Answer.{Answer}
 
@@ -37,11 +37,15 @@ use Rattle.events.specs.declared.answers.Answer.{Answer}
 abbrev pub RefusedKeeps : Type 0
 RefusedKeeps = (m : Machine) (event : Event) → (refusalIn m event ≡ Refusal.accepted → ⊥) → after m event ≡ m
 
+-- a number, and zeros: written out, so that the definition has something to be held to
+abbrev pub onlyNumber : ℕ → Answer
+onlyNumber n = record { refusal = n; phase = 0; granted = 0; lines = 0; signals = 0; status = 0; cycles = 0; datum = 0 }
+
 -- After 01 and 02 everything else in the answer is 0; after a higher number it shows the bus, without status, cycles and datum.
 abbrev pub RefusedAnswers : Type 0
 RefusedAnswers =
     (m : Machine) (event : Event) (n : ℕ) → refusalIn m event ≡ n
-    → ((n ≡ Refusal.wrongBuffers) ⊎ (n ≡ Refusal.senseless) → answerTo m event ≡ bare n)
+    → ((n ≡ Refusal.wrongBuffers) ⊎ (n ≡ Refusal.senseless) → answerTo m event ≡ onlyNumber n)
     × (Refusal.malformed ≤ n → answerTo m event ≡ answerWith n (m .bus) (signalsIn (m .bus .phase)) 0 nothing)
 
 -- The number answered is n exactly where n is among the reasons and every smaller number is not,

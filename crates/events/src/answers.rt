@@ -4,7 +4,7 @@ ghost use Rattle.events.specs.Answers.{answerWith, signalsWith, wordSign
 use bus::Bus;
 use memory::Moved;
 use phases::numbers::*;
-use phases::signals;
+use tables::signals;
 
 // The parts of 01's answer line, in its order.
 pub struct Answer {

@@ -1,9 +1,2 @@
-// The phases of the bus and the kinds of cycles: what stands on the lines in each, from constant tables. The state is no part of it.
+// The phases, the kinds of cycles and what stands on the lines, by number.
 pub mod numbers;
-mod tables;
-
-pub use tables::control;
-pub use tables::driver;
-pub use tables::mwrt;
-pub use tables::signals;
-pub use tables::status;

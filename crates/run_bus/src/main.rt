@@ -69,12 +69,12 @@ fn weights() {
 // Phase; who drives address, status, data-out and control; signals; control outputs with no cycle.
 fn phase_row(phase: u8) {
     put(phase);
-    put(phases::driver(phase, 0));
-    put(phases::driver(phase, 1));
-    put(phases::driver(phase, 2));
-    put(phases::driver(phase, 3));
-    put(phases::signals(phase));
-    put(phases::control(phase, 0));
+    put(tables::driver(phase, 0));
+    put(tables::driver(phase, 1));
+    put(tables::driver(phase, 2));
+    put(tables::driver(phase, 3));
+    put(tables::signals(phase));
+    put(tables::control(phase, 0));
     end_line();
 }
 
@@ -91,7 +91,7 @@ fn drivers_and_signals() {
 
 // 1 where MWRT is true in the permanent master's cycle of this kind.
 fn memory_write(kind: u8) -> u8 {
-    if phases::mwrt(phases::control(0, kind), phases::status(kind)) {
+    if tables::mwrt(tables::control(0, kind), tables::status(kind)) {
         1
     } else {
         0
@@ -101,11 +101,11 @@ fn memory_write(kind: u8) -> u8 {
 // Kind; status; MWRT; control outputs in the permanent master's cycle, in transfer one and in the granted card's cycle.
 fn kind_row(kind: u8) {
     put(kind);
-    put(phases::status(kind));
+    put(tables::status(kind));
     put(memory_write(kind));
-    put(phases::control(FREE, kind));
-    put(phases::control(TRANSFER_ONE, kind));
-    put(phases::control(OWNED, kind));
+    put(tables::control(FREE, kind));
+    put(tables::control(TRANSFER_ONE, kind));
+    put(tables::control(OWNED, kind));
     end_line();
 }
 
@@ -132,7 +132,7 @@ fn show_bus(bus: Bus) -> Bus {
     put(bus.phase);
     put(bus.granted);
     put(bus.lines());
-    put(phases::signals(bus.phase));
+    put(tables::signals(bus.phase));
     end_line();
     bus
 }

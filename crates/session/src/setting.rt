@@ -11,9 +11,9 @@ use events::Answer;
 use events::answer_with;
 use events::bare;
 use memory::Moved;
-use phases::signals;
 use reading::setup_line;
 use sense::setup;
+use tables::signals;
 use text::SetupLine;
 
 pub fn set_up(line: &[u8]) -> SetupAnswer

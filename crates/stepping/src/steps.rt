@@ -17,9 +17,9 @@ use judging::judge;
 use judging::number_of;
 use judging::page_at;
 use memory::Moved;
-use phases::signals;
-use phases::status;
 use sense::makes_sense;
+use tables::signals;
+use tables::status;
 
 const NOTHING: Moved = Moved {
     datum: 0,

@@ -2,8 +2,8 @@
 use mathlib.Core.Path.{refl}
 use borrow.Author.Needs.{needs}
 use Rattle.words.proofs.TestLaws.{then-pick, else-pick}
-use Rattle.phases.proofs.tables.strobe_in.Statement.{statement}
-use Rattle.phases.proofs.tables.strobe_in.Tie as tie
+use Rattle.tables.proofs.tables.strobe_in.Statement.{statement}
+use Rattle.tables.proofs.tables.strobe_in.Tie as tie
 
 pub strobe-in-spec : {M : Type 1} → statement M
 strobe-in-spec =

@@ -1,9 +1,9 @@
 -- From what the two calls ensure; their sum fits a byte.
 use borrow.Author.Needs.{needs}
 use Rattle.phases.specs.Control.{controlIn}
-use Rattle.phases.proofs.TableRules.{control-fits}
-use Rattle.phases.proofs.tables.control.Statement.{statement}
-use Rattle.phases.proofs.tables.control.Tie as tie
+use Rattle.tables.proofs.TableRules.{control-fits}
+use Rattle.tables.proofs.tables.control.Statement.{statement}
+use Rattle.tables.proofs.tables.control.Tie as tie
 
 pub control-spec : {M : Type 1} → statement M
 unfolding controlIn

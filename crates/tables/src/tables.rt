@@ -1,11 +1,11 @@
 // What stands on the lines by phase and by kind of cycle, from constant tables: drivers, signals, status and control outputs.
 ghost use mathlib.Core.Path.{_≡_};
 ghost use mathlib.Core.Bool.{cond};
 ghost use Rattle.phases.specs.Signal.{pHLDA, isOn, signalsIn};
 ghost use Rattle.phases.specs.Driver.{driverOf};
 ghost use Rattle.phases.specs.Status.{statusOf};
 ghost use Rattle.phases.specs.Control.{allowsCycles, strobeOf, controlIn, isMWRT};
-use crate::numbers::*;
+use phases::numbers::*;
 
 // Who drives the address, status, data-out and control lines: a row for each phase.
 const DRIVERS: [[u8; 4]; 6] = [

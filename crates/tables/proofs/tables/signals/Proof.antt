@@ -1,9 +1,9 @@
 -- By the rule of the table.
 use borrow.Author.Needs.{needs}
 use native.Mathlib.Omega.{arith}
-use Rattle.phases.proofs.TableRules.{signals-entry, signals-beyond}
-use Rattle.phases.proofs.tables.signals.Statement.{statement}
-use Rattle.phases.proofs.tables.signals.Tie as tie
+use Rattle.tables.proofs.TableRules.{signals-entry, signals-beyond}
+use Rattle.tables.proofs.tables.signals.Statement.{statement}
+use Rattle.tables.proofs.tables.signals.Tie as tie
 
 pub signals-spec : {M : Type 1} → statement M
 signals-spec =

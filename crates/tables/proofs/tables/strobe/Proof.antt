@@ -1,9 +1,9 @@
 -- By the rule of the table.
 use borrow.Author.Needs.{needs}
 use native.Mathlib.Omega.{arith}
-use Rattle.phases.proofs.TableRules.{strobe-entry, strobe-beyond}
-use Rattle.phases.proofs.tables.strobe.Statement.{statement}
-use Rattle.phases.proofs.tables.strobe.Tie as tie
+use Rattle.tables.proofs.TableRules.{strobe-entry, strobe-beyond}
+use Rattle.tables.proofs.tables.strobe.Statement.{statement}
+use Rattle.tables.proofs.tables.strobe.Tie as tie
 
 pub strobe-spec : {M : Type 1} → statement M
 strobe-spec =

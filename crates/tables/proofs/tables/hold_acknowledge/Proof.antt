@@ -4,8 +4,8 @@ use mathlib.Core.Path.{refl, sym, ap, _∙_}
 use borrow.Author.Needs.{needs}
 use borrow.Author.Tests.{eq-eqb, ne-eqb}
 use Rattle.words.proofs.TestLaws.{then-pick, else-pick}
-use Rattle.phases.proofs.tables.hold_acknowledge.Statement.{statement}
-use Rattle.phases.proofs.tables.hold_acknowledge.Tie as tie
+use Rattle.tables.proofs.tables.hold_acknowledge.Statement.{statement}
+use Rattle.tables.proofs.tables.hold_acknowledge.Tie as tie
 
 pub hold-acknowledge-spec : {M : Type 1} → statement M
 hold-acknowledge-spec =

@@ -1,9 +1,9 @@
 -- By the rule of the table.
 use borrow.Author.Needs.{needs}
 use native.Mathlib.Omega.{arith}
-use Rattle.phases.proofs.TableRules.{driver-entry, driver-no-group, driver-no-phase}
-use Rattle.phases.proofs.tables.driver.Statement.{statement}
-use Rattle.phases.proofs.tables.driver.Tie as tie
+use Rattle.tables.proofs.TableRules.{driver-entry, driver-no-group, driver-no-phase}
+use Rattle.tables.proofs.tables.driver.Statement.{statement}
+use Rattle.tables.proofs.tables.driver.Tie as tie
 
 pub driver-spec : {M : Type 1} → statement M
 driver-spec =

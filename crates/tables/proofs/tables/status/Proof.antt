@@ -1,9 +1,9 @@
 -- By the rule of the table.
 use borrow.Author.Needs.{needs}
 use native.Mathlib.Omega.{arith}
-use Rattle.phases.proofs.TableRules.{status-entry, status-beyond}
-use Rattle.phases.proofs.tables.status.Statement.{statement}
-use Rattle.phases.proofs.tables.status.Tie as tie
+use Rattle.tables.proofs.TableRules.{status-entry, status-beyond}
+use Rattle.tables.proofs.tables.status.Statement.{statement}
+use Rattle.tables.proofs.tables.status.Tie as tie
 
 pub status-spec : {M : Type 1} → statement M
 status-spec =

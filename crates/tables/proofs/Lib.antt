@@ -1,0 +1,2 @@
+-- The rules of the tables.
+pub mod TableRules
