@@ -3,13 +3,13 @@ use Prim.Native.Nat.{ℕ, _+_, _/_, _<_, _≤_}
 use mathlib.Core.Path.{_≡_}
 use mathlib.Core.Logic.{_⊎_, _↔_}
 use mathlib.Core.Bool.{Bool, true, false, cond}
-use mathlib.Core.List.{List, [], _∷_}
+use mathlib.Core.List.{List}
 use lib.ListN.{length, getD, set}
 use Rattle.words.specs.First.{appliesAs}
 use Rattle.lines.specs.Look.{look}
 use Rattle.phases.specs.Phase as Phase
 use Rattle.phases.specs.Kind as Kind
-use Rattle.phases.specs.Signal.{HOLD, pHLDA, ADSB, SDSB, DODSB, CDSB, SIXTN, sXTRQ, disabling, isOn, signalsIn}
+use Rattle.phases.specs.Signal.{HOLD, pHLDA, CDSB, SIXTN, sXTRQ, disabling, isOn, signalsIn}
 use Rattle.phases.specs.Driver.{allPermanent, changingHands, allCard, driversIn}
 use Rattle.phases.specs.Status.{sMEMR, sM1, sINP, sOUT, sWO}
 use Rattle.memory.specs.declared.Moved.{Moved}

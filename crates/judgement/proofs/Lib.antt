@@ -2,4 +2,3 @@
 pub mod AsComputed
 pub mod Passed
 pub mod TableLaws
-pub mod TurnLaws

@@ -6,7 +6,7 @@ use mathlib.Core.List.{List}
 use lib.Dec.{eqb}
 use lib.ListN.{length}
 use borrow.Author.Tests.{eqb-true, eq-eqb, not-false}
-use Rattle.words.specs.First.{reason, firstOf}
+use Rattle.words.specs.First.{firstOf}
 use Rattle.words.proofs.FirstLaws.{first-none}
 use Rattle.bus.specs.Settle.{isSenseless}
 use Rattle.bus.specs.declared.state.Bus.{Bus}
@@ -24,7 +24,7 @@ use Rattle.judgement.specs.Refusals.{
 use Rattle.judgement.specs.Judge.{soundRefusal, refusalOf, numberOf, verdictOn, soundVerdict}
 use Rattle.judgement.specs.Promises.{VerdictNumber, VerdictStep, LengthsAsked}
 use Rattle.judgement.specs.declared.event.Event.{Event}
-use Rattle.judgement.proofs.TurnLaws.{steps-of-table}
+use Rattle.judgement.proofs.TableLaws.{steps-of-table}
 
 module _ (bus : Bus) (event : Event) where
   -- no reason of a sound call applies

@@ -2,19 +2,20 @@
 use Prim.Native.Nat.{ℕ, suc, _/_, _<_, _≤_, zero-le}
 use mathlib.Core.Path.{_≡_, refl, sym, subst}
 use mathlib.Core.Logic.{⊎-elim}
-use mathlib.Core.Bool.{Bool, false, _&&_, _||_}
-use mathlib.Core.List.{List}
+use mathlib.Core.Bool.{Bool, true, false, cond, _&&_, _||_, and-eq-true-iff, true≢false}
+use mathlib.Core.List.{List, [], _∷_}
 use native.Mathlib.Nat.{eq-or-lt-of-le}
 use native.Mathlib.Decide.{decLt}
 use native.Mathlib.Omega.{arith}
 use lib.Dec.{eqb, leb, lit≤}
 use lib.ListN.{length, List·getD-eq-default}
-use borrow.Author.Tests.{ne-eqb}
+use borrow.Author.Tests.{eqb-true, ne-eqb}
 use Rattle.words.specs.Below.{allBelow}
 use Rattle.words.proofs.BelowLaws.{same-tests-below}
 use Rattle.phases.specs.Control.{allowsCycles}
-use Rattle.judgement.specs.Table.{Row, row, master, rowOf, rowIn, noRow, listsSpeaker, listsAddress, listsDatum}
+use Rattle.judgement.specs.Table.{Row, row, master, table, rowOf, rowIn, noRow, listsSpeaker, listsAddress, listsDatum}
 use Rattle.judgement.specs.Refusals.{pageAt}
+use Rattle.judgement.specs.Judge.{numberOf}
 use Rattle.judgement.specs.Promises.{EachKindHasItsRow}
 use Rattle.judgement.specs.declared.verdict.Verdict.the-variants.{Cycle}
 
@@ -135,3 +136,26 @@ each-kind-has-its-row =
     (λ low high. refl)
     (λ low high. refl)
     (λ k above low high. absurd (omega (arith, above, high)))
+
+-- each row of these names a step
+unfoldable allSteps : List Row → Bool
+allSteps [] = true
+allSteps (r ∷ rows) = eqb (numberOf (r .step)) 0 && allSteps rows
+
+-- a row whose phase is right has a step, and no refusal
+steps-only : (rows : List Row) → allSteps rows ≡ true → (kind phase : ℕ) → rowIn rows kind .allows phase ≡ true → numberOf (rowIn rows kind .step) ≡ 0
+unfolding rowIn allSteps
+steps-only [] e kind phase a = absurd (true≢false (sym a))
+steps-only (r ∷ rows) e kind phase a = go (eqb kind (r .kind)) (steps-only rows (each .1) kind phase) a
+  where
+    each : (eqb (numberOf (r .step)) 0 ≡ true) × (allSteps rows ≡ true)
+    each = and-eq-true-iff (eqb (numberOf (r .step)) 0) (allSteps rows) .0 e
+
+    go : (b : Bool) → (rowIn rows kind .allows phase ≡ true → numberOf (rowIn rows kind .step) ≡ 0)
+        → cond b r (rowIn rows kind) .allows phase ≡ true → numberOf (cond b r (rowIn rows kind) .step) ≡ 0
+    go true later t = eqb-true _ _ (each .0)
+    go false later t = later t
+
+pub steps-of-table : (kind phase : ℕ) → rowOf kind .allows phase ≡ true → numberOf (rowOf kind .step) ≡ 0
+unfolding allSteps
+steps-of-table = steps-only table refl

@@ -84,15 +84,5 @@ numberOf Reset = Refusal.accepted
 abbrev pub verdictOn : ℕ → Event → Verdict
 verdictOn number event = cond (eqb number Refusal.accepted) (rowOf (event .kind) .step) (Refused number)
 
-unfoldable pub turnOf : Bus → Event → Verdict
-turnOf bus event = verdictOn (firstOf (turnReasons bus event)) event
-
 unfoldable pub soundVerdict : Bus → Event → Verdict
 soundVerdict bus event = verdictOn (soundRefusal bus event) event
-
--- what is left to judge of a cycle in a phase of this master's
-abbrev pub cycleTurn : Bus → Event → ℕ → Verdict
-cycleTurn bus event master =
-    cond (eqb (event .speaker) master)
-    (cond (isOddWord event) (Refused Refusal.oddWord) (cond (isAbsent (bus .pages) event) (Refused Refusal.absent) Cycle))
-    (Refused Refusal.notItsTurn)

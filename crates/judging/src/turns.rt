@@ -2,7 +2,8 @@
 ghost use mathlib.Core.Path.{_≡_};
 ghost use mathlib.Core.Bool.{cond};
 ghost use Rattle.bus.specs.Refusal.{notItsTurn, unsettled};
-ghost use Rattle.judgement.specs.Judge.{numberOf, turnOf, soundVerdict, cycleTurn};
+ghost use Rattle.judgement.specs.Judge.{numberOf, soundVerdict};
+ghost use Rattle.judging.specs.Turns.{turnOf, cycleTurn};
 use crate::reasons::is_absent;
 use crate::reasons::is_malformed;
 use crate::reasons::is_odd_word;

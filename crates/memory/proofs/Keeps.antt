@@ -1,20 +1,14 @@
--- What a write keeps: every other byte, the length, and that bytes are bytes.
+-- What a write keeps: every other byte, and the length.
 use mathlib.Core.Path.{_≡_, refl, sym, _∙_, subst}
 use mathlib.Core.Logic.{⊎-elim}
 use mathlib.Core.List.{List}
-use Prim.Native.Nat.{ℕ, _+_, _<_}
+use Prim.Native.Nat.{ℕ, _+_}
 use native.Mathlib.Omega.{arith}
-use lib.Dec.{lit<}
 use lib.ListN.{set, length-set}
 use lib.Seq.{getD-set-other}
-use Rattle.words.proofs.ListLaws.{getD-set-either}
-use Rattle.memory.specs.declared.Moved.{Moved}
 use Rattle.memory.specs.Halves.{evenHalf, oddHalf}
-use Rattle.memory.specs.Cycles.{byteRead}
 use Rattle.memory.specs.Promises.{SameOutside, ByteWriteKeeps, WordWriteKeeps, WordOfItsPair}
-use Rattle.memory.specs.Promises.{AllBytes, ByteWriteInRange, WordWriteInRange, ReadsInRange}
-use Rattle.memory.proofs.OneByte.{byte-read-one}
-use Rattle.memory.proofs.WordLaws.{by-word, word-read-is, after-word-is, no-word-read, no-word-after}
+use Rattle.memory.proofs.WordLaws.{by-word, after-word-is, no-word-after}
 use Rattle.memory.proofs.PairLaws.{pair-read, pair-write, pair-home}
 
 -- ---- Every other byte
@@ -44,25 +38,3 @@ word-write-keeps s m a v =
 
 pub word-of-its-pair : WordOfItsPair
 word-of-its-pair s m a h = (pair-read s m a h, λ v. (pair-write s m a h v, pair-home s m a h v))
-
--- ---- Bytes stay bytes
-
-pub byte-write-in-range : ByteWriteInRange
-byte-write-in-range m bytes a b h k = getD-set-either (λ (x : ℕ). x < 256) m a k b (bytes k) (λ e. h)
-
-pub word-write-in-range : WordWriteInRange
-word-write-in-range s m bytes a v h =
-    by-word m a
-    (λ there.
-    subst AllBytes (sym (after-word-is m a s v there))
-    (byte-write-in-range (set m a (evenHalf v)) (byte-write-in-range m bytes a (evenHalf v) (omega arith)) (a + 1) (oddHalf v) (omega arith)))
-    (λ none. subst AllBytes (sym (no-word-after m a s v none)) bytes)
-
-pub reads-in-range : ReadsInRange
-reads-in-range m bytes a = (
-  byte-read-one m a (byteRead m a) refl (bytes a) .datum,
-  λ s.
-      by-word m a
-      (λ there. subst (λ (r : Moved). r .datum < 65536) (sym (word-read-is m a s there)) (omega (arith, bytes a, bytes (a + 1))))
-      (λ none. subst (λ (r : Moved). r .datum < 65536) (sym (no-word-read m a s none)) (lit< tt)),
-)

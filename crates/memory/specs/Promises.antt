@@ -123,19 +123,3 @@ abbrev pub BytesReadAsWord : Type 0
 BytesReadAsWord =
     (sixteen : Bool) (m : List ℕ) (a even odd : ℕ) → hasWord m a ≡ true
     → wordRead sixteen (afterByteWrite (afterByteWrite m a even) (a + 1) odd) a ≡ inWordCycles sixteen (wordOf even odd)
-
--- ---- Bounds
-
-abbrev pub AllBytes : List ℕ → Type 0
-AllBytes m = (k : ℕ) → getD m k 0 < 0x100
-
--- Bytes stay bytes,
-abbrev pub ByteWriteInRange : Type 0
-ByteWriteInRange = (m : List ℕ) → AllBytes m → (a b : ℕ) → b < 0x100 → AllBytes (afterByteWrite m a b)
-
-abbrev pub WordWriteInRange : Type 0
-WordWriteInRange = (sixteen : Bool) (m : List ℕ) → AllBytes m → (a datum : ℕ) → datum < 0x10000 → AllBytes (afterWordWrite sixteen m a datum)
-
--- and what is read of them has eight bits, or sixteen.
-abbrev pub ReadsInRange : Type 0
-ReadsInRange = (m : List ℕ) → AllBytes m → (a : ℕ) → (byteRead m a .datum < 0x100) × ((sixteen : Bool) → wordRead sixteen m a .datum < 0x10000)

@@ -3,7 +3,7 @@ ghost use mathlib.Core.Bool.{true};
 ghost use mathlib.Core.Path.{_≡_};
 ghost use Prim.Native.Nat.{_%_};
 ghost use Rattle.words.specs.Among.{everyListed};
-ghost use Rattle.text.specs.Digits.{isDigit, valueOf, digitOf};
+ghost use Rattle.text.specs.Digits.{isDigit, valueOf};
 
 // From the byte 0 on to the byte F, a one for each that is a digit.
 const DIGITS: u32 = 0x7E03FF;

@@ -8,7 +8,7 @@ use lib.Seq.{getD-set-same}
 use Rattle.phases.specs.Kind as Kind
 use Rattle.judgement.specs.declared.event.Event.{Event}
 use Rattle.events.specs.Machine.{Machine}
-use Rattle.events.specs.Step.{after, answerTo}
+use Rattle.events.specs.Step.{after}
 use Rattle.events.specs.declared.answers.Answer.{Answer}
 use Rattle.events.proofs.EachCycle.{in-ports, input-does, output-does}
 use Rattle.events.proofs.Stays.{only-outputs, other-bytes-stay}

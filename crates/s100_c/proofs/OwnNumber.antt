@@ -1,10 +1,9 @@
 -- No refusal has the number of a wrong length: those of 01 are small.
-use mathlib.Core.Path.{_≡_, refl, sym, ap, _∙_}
-use mathlib.Core.Logic.{inl, inr, ⊎-elim}
+use mathlib.Core.Path.{_≡_, refl, _∙_}
+use mathlib.Core.Logic.{⊎-elim}
 use mathlib.Core.Bool.{Bool, true, false, cond, _&&_, and-eq-true-iff}
 use mathlib.Core.List.{List, [], _∷_}
-use Prim.Native.Nat.{ℕ, _<_, _≤_}
-use native.Mathlib.Decide.{ℕ-discrete, decLt}
+use Prim.Native.Nat.{ℕ, _≤_}
 use native.Mathlib.Omega.{arith}
 use lib.Dec.{eqb, leb, lit≤}
 use borrow.Author.Tests.{leb-true}
@@ -19,8 +18,7 @@ use Rattle.bus.specs.declared.state.Bus.{Bus}
 use Rattle.judgement.specs.Judge.{reasonsAgainst, refusalOf}
 use Rattle.judgement.specs.declared.event.Event.{Event}
 use Rattle.events.specs.Machine.{Machine}
-use Rattle.events.specs.Step.{refusalIn, answerTo}
-use Rattle.events.specs.declared.answers.Answer.{Answer}
+use Rattle.events.specs.Step.{refusalIn}
 use Rattle.events.proofs.Refused.{answers-refusal}
 use Rattle.s100_c.specs.Layout.{isState, busIn}
 use Rattle.s100_c.specs.Calls.{setupFits, machineIn, placesFit}

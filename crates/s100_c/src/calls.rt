@@ -22,7 +22,6 @@ use crate::layout::bus_in;
 use crate::layout::put_answer;
 use crate::layout::put_bus;
 use crate::layout::sixteen_at;
-use bus::Bus;
 use bus::numbers::*;
 use judgement::Event;
 use sense::setup;

@@ -1,7 +1,7 @@
 -- A whole call: when it is refused, and what it tells and leaves.
 use mathlib.Core.Path.{_≡_, refl, sym, ap, subst, _∙_}
 use mathlib.Core.Logic.{⊎-elim}
-use mathlib.Core.Bool.{Bool, true, false, cond, not, _&&_, _||_}
+use mathlib.Core.Bool.{Bool, true, false, cond, not, _&&_}
 use mathlib.Core.List.{List, _++_}
 use Prim.Native.Nat.{ℕ, _-_, _/_, _<_, _≤_}
 use native.Mathlib.Omega.{arith}
@@ -9,7 +9,7 @@ use lib.Dec.{eqb, ltb, lit<}
 use lib.ListN.{length, getD, take, drop, length-set}
 use lib.Seq.{sets, length-take-le}
 use borrow.Author.Tests.{ltb-true, ltb-false}
-use Rattle.words.proofs.TestLaws.{true-or-false, neither-of, both-of}
+use Rattle.words.proofs.TestLaws.{true-or-false, both-of}
 use Rattle.bus.specs.Refusal as Refusal
 use Rattle.bus.specs.Sense.{makesSense}
 use Rattle.bus.specs.declared.state.Bus.{Bus}

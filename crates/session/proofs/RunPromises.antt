@@ -17,20 +17,20 @@ use Rattle.bus.specs.Sense.{makesSense, pagesKnown}
 use Rattle.bus.specs.Setup.{emptyBus}
 use Rattle.bus.specs.declared.state.Bus.{Bus}
 use Rattle.judgement.specs.Refusals.{hasWrongBuffers}
-use Rattle.events.specs.Machine.{Machine, machine}
+use Rattle.events.specs.Machine.{Machine}
 use Rattle.events.specs.Answers.{bare}
 use Rattle.events.specs.Step.{after, refusalIn}
 use Rattle.events.proofs.Refused.{refused-keeps}
 use Rattle.events.proofs.Stays.{lengths-kept}
 use Rattle.text.specs.Digits.{isDigit, isDigits, valueOf}
 use Rattle.text.specs.Newlines.{lastLine, linesAfter, linesOf}
-use Rattle.text.specs.Frames.{eventDigits, eventIn, setupDigits, setupIn, longest, part, fittedIn, pagesIn}
+use Rattle.text.specs.Frames.{eventDigits, eventIn, setupDigits, setupIn, part, fittedIn, pagesIn}
 use Rattle.text.specs.AnswerLine.{answerLine}
 use Rattle.text.specs.Reading.{answersTo}
 use Rattle.text.specs.declared.frames.SetupLine.{SetupLine}
 use Rattle.text.proofs.ReadingLaws.{answer-long}
 use Rattle.session.specs.World.{World, world, says, turns, saysBy, turnsBy, setUpBy, setupAnswer, afterEvent, machineOf, freshWorld}
-use Rattle.session.specs.Output.{answers, output}
+use Rattle.session.specs.Output.{answers}
 use Rattle.session.specs.Promises.{EventTakesItsStep, BadLineAnswers, RefusedLineKeeps, RefusedSetupEnds, CutChangesNothing, EmptyPrintsNothing, OneAnswerALine, StaysSound, StartsAtZero, FreshIsSound, setupNumber, answered}
 use Rattle.session.specs.declared.state.Stage.{Stage}
 use Rattle.session.specs.declared.state.Stage.the-variants.{Awaiting, Running, Ended}

@@ -2,9 +2,7 @@
 ghost use mathlib.Core.Path.{_≡_};
 ghost use Rattle.text.specs.Frames.{setupIn};
 ghost use Rattle.session.specs.World.{refusedAs, setUpBy, setupAnswer, stageAfter};
-use crate::state::Session;
 use crate::state::Stage;
-use bus::Bus;
 use bus::SetupAnswer;
 use bus::numbers::*;
 use events::Answer;
@@ -14,7 +12,6 @@ use memory::Moved;
 use reading::setup_line;
 use sense::setup;
 use tables::signals;
-use text::SetupLine;
 
 pub fn set_up(line: &[u8]) -> SetupAnswer
     ensures { λ r. ⌜ r ≡ setUpBy (setupIn (now (line .entry))) ⌝ }

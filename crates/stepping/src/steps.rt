@@ -6,7 +6,6 @@ ghost use Rattle.events.specs.Step.{stepBy, takenBy, answerBy, stepped, after, 
 use crate::cycles::cycle;
 use bus::Bus;
 use bus::numbers::*;
-use events::Answer;
 use events::Stepped;
 use events::answer_with;
 use events::bare;

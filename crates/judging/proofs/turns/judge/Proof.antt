@@ -1,7 +1,7 @@
 -- From what the calls ensure, the lowest number first.
 use mathlib.Core.Path.{sym, _∙_}
 use borrow.Author.Needs.{needs}
-use Rattle.judgement.proofs.TurnLaws.{sound-chain}
+use Rattle.judging.proofs.TurnLaws.{sound-chain}
 use Rattle.judging.proofs.turns.judge.Statement.{statement}
 use Rattle.judging.proofs.turns.judge.Tie as tie
 

@@ -10,7 +10,7 @@ use Rattle.bus.specs.Refusal as Refusal
 use Rattle.judgement.specs.Table.{rowIn}
 use Rattle.judgement.specs.declared.verdict.Verdict.the-variants.{Refused, Look, Acknowledge}
 use Rattle.judgement.proofs.TableLaws.{cycle-row, no-row, no-row-zero, past-five}
-use Rattle.judgement.proofs.TurnLaws.{wrong-phase, speaker-decides, lines-decide, cycle-decides, early-cycles, early-master, owned-master, no-cycles}
+use Rattle.judging.proofs.TurnLaws.{wrong-phase, speaker-decides, lines-decide, cycle-decides, early-cycles, early-master, owned-master, no-cycles}
 use Rattle.judging.proofs.turns.turn.Statement.{statement}
 use Rattle.judging.proofs.turns.turn.Tie as tie
 

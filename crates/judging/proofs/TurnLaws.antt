@@ -2,12 +2,11 @@
 use Prim.Native.Nat.{ℕ, _<_, _≤_}
 use mathlib.Core.Path.{_≡_, refl, sym, ap, _∙_}
 use mathlib.Core.Logic.{⊎-elim}
-use mathlib.Core.Bool.{Bool, true, false, not, cond, _&&_, and-eq-true-iff, true≢false}
-use mathlib.Core.List.{List, [], _∷_}
+use mathlib.Core.Bool.{Bool, true, false, not, cond}
 use native.Mathlib.Nat.{eq-or-lt-of-le}
 use native.Mathlib.Omega.{arith}
 use lib.Dec.{eqb}
-use borrow.Author.Tests.{eqb-true, ne-eqb}
+use borrow.Author.Tests.{ne-eqb}
 use Rattle.words.specs.First.{firstOf}
 use Rattle.phases.specs.Phase as Phase
 use Rattle.phases.specs.Kind as Kind
@@ -15,13 +14,14 @@ use Rattle.phases.specs.Control.{allowsCycles}
 use Rattle.bus.specs.Refusal as Refusal
 use Rattle.bus.specs.State.{isSettled}
 use Rattle.bus.specs.declared.state.Bus.{Bus}
-use Rattle.judgement.specs.Table.{permanentMaster, hasTurn, masterOf, Row, table, rowOf, rowIn}
+use Rattle.judgement.specs.Table.{permanentMaster, hasTurn, masterOf, rowOf, rowIn}
 use Rattle.judgement.specs.Refusals.{isMalformed, namesNobody, namesUnfitted, isWrongPhase, isNotItsTurn, isUnsettled, isOddWord, isAbsent}
-use Rattle.judgement.specs.Judge.{soundRefusal, numberOf, turnOf, soundVerdict, cycleTurn}
+use Rattle.judgement.specs.Judge.{soundRefusal, soundVerdict}
+use Rattle.judging.specs.Turns.{turnOf, cycleTurn}
 use Rattle.judgement.specs.declared.event.Event.{Event}
 use Rattle.judgement.specs.declared.verdict.Verdict.{Verdict}
 use Rattle.judgement.specs.declared.verdict.Verdict.the-variants.{Refused, Acknowledge, Cycle}
 use Rattle.judgement.proofs.TableLaws.{CycleRow, cycle-row}
 
 -- a number where a test holds, and else a later one: the verdict is that refusal, or the later verdict
 verdict-first : (b : Bool) (step : Verdict) (n later : ℕ) → eqb n 0 ≡ false
@@ -113,28 +113,3 @@ owned-master bus e = rw e
 pub no-cycles : (phase : ℕ) → Phase.arbitration < phase → (phase ≡ Phase.owned → ⊥) → allowsCycles phase ≡ false
 no-cycles phase h other =
     rw (ne-eqb phase Phase.free (λ e. omega (arith, e, h)), ne-eqb phase Phase.arbitration (λ e. omega (arith, e, h)), ne-eqb phase Phase.owned other)
-
--- ---- The number of a verdict
-
--- each row of these names a step
-unfoldable allSteps : List Row → Bool
-allSteps [] = true
-allSteps (r ∷ rows) = eqb (numberOf (r .step)) 0 && allSteps rows
-
--- a row whose phase is right has a step, and no refusal
-steps-only : (rows : List Row) → allSteps rows ≡ true → (kind phase : ℕ) → rowIn rows kind .allows phase ≡ true → numberOf (rowIn rows kind .step) ≡ 0
-unfolding rowIn allSteps
-steps-only [] e kind phase a = absurd (true≢false (sym a))
-steps-only (r ∷ rows) e kind phase a = go (eqb kind (r .kind)) (steps-only rows (each .1) kind phase) a
-  where
-    each : (eqb (numberOf (r .step)) 0 ≡ true) × (allSteps rows ≡ true)
-    each = and-eq-true-iff (eqb (numberOf (r .step)) 0) (allSteps rows) .0 e
-
-    go : (b : Bool) → (rowIn rows kind .allows phase ≡ true → numberOf (rowIn rows kind .step) ≡ 0)
-        → cond b r (rowIn rows kind) .allows phase ≡ true → numberOf (cond b r (rowIn rows kind) .step) ≡ 0
-    go true later t = eqb-true _ _ (each .0)
-    go false later t = later t
-
-pub steps-of-table : (kind phase : ℕ) → rowOf kind .allows phase ≡ true → numberOf (rowOf kind .step) ≡ 0
-unfolding allSteps
-steps-of-table = steps-only table refl

@@ -1,0 +1,2 @@
+-- What the functions below judge promise their callers. What is promised of judge itself is in judgement.
+pub mod Turns
