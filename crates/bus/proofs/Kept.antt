@@ -17,7 +17,7 @@ use Rattle.cards.specs.Cards.{cardIn, someCard, isWithin}
 use Rattle.bus.specs.State.{freeBus, nobody, silent, stateOf, changed, arbitrationOf, linesOf, isSettled}
 use Rattle.bus.specs.Steps.{mayRequest, mayLook, lookedBy, afterLooksOf, mayAcknowledge, mayTransfer, resetTo}
 use Rattle.bus.specs.Settle.{leadingLooks, settleRefusal, refusedAs, acceptedAfter, settleOf}
-use Rattle.bus.specs.Method.{Method, request, look, acknowledge, beginTransferOne, takeBus, beginTransferTwo, giveBack, reset, settle, after}
+use Rattle.bus.specs.Method.{Method, request, look, acknowledge, beginTransferOne, takeBus, beginTransferTwo, giveBack, reset, settle, afterMethod}
 use Rattle.bus.specs.Promises.{Sensible, SenseKept, CardsAndPagesKept}
 use Rattle.bus.specs.declared.state.Bus.{Bus}
 use Rattle.cards.proofs.CardLaws.{card-below, none-in-empty, within-at, some-at}
@@ -158,7 +158,7 @@ unfolding afterLooksOf
 looks-sense [] bus s = s
 looks-sense (card ∷ cards) bus s = looks-sense cards (lookedBy bus card) (look-sense bus card s)
 
-keeps-sense : (method : Method) (bus : Bus) → Sensible bus → Sensible (after method bus)
+keeps-sense : (method : Method) (bus : Bus) → Sensible bus → Sensible (afterMethod method bus)
 unfolding settleOf
 keeps-sense (request cards) bus s = either-sense (mayRequest bus cards) (request-sense bus cards s) s
 keeps-sense (look card) bus s = look-sense bus card s
@@ -178,7 +178,7 @@ keeps-sense (settle cards) bus s = go (eqb (settleRefusal bus cards) 0)
     go false = s
 
 pub sense-kept : SenseKept
-sense-kept method bus e = sense-means (after method bus) .1 (keeps-sense method bus (sense-means bus .0 e))
+sense-kept method bus e = sense-means (afterMethod method bus) .1 (keeps-sense method bus (sense-means bus .0 e))
 
 -- ---- Fitted cards and pages
 

@@ -111,10 +111,10 @@ settle-by-number bus cards n h =
     (λ e. lowest .0 (sym (answers bus cards) ∙ e), λ low. answers bus cards ∙ lowest .1 low)
 
 setup-not-one : (fitted : ℕ) (pages : List ℕ) → setupOf fitted pages .answer ≡ Refusal.wrongBuffers → ⊥
-setup-not-one fitted pages = ⊎-elim (λ known. rw known zero) (λ unknown. rw unknown eleven) (true-or-false (pagesKnown pages))
+setup-not-one fitted pages = ⊎-elim (λ known. rw known none) (λ unknown. rw unknown eleven) (true-or-false (pagesKnown pages))
   where
-    zero : _≡_ {A = ℕ} 0x00 0x01 → ⊥
-    zero e = omega (arith, e)
+    none : _≡_ {A = ℕ} 0x00 0x01 → ⊥
+    none e = omega (arith, e)
 
     eleven : _≡_ {A = ℕ} 0x0B 0x01 → ⊥
     eleven e = omega (arith, e)

@@ -13,7 +13,7 @@ use Rattle.bus.specs.Sense.{makesSense}
 use Rattle.bus.specs.Setup.{setupOf}
 use Rattle.bus.specs.Steps.{requested, lookedBy, afterLooksOf, acknowledged}
 use Rattle.bus.specs.Settle.{settleOf}
-use Rattle.bus.specs.Method.{Method, request, look, acknowledge, beginTransferOne, takeBus, beginTransferTwo, giveBack, reset, after}
+use Rattle.bus.specs.Method.{Method, request, look, acknowledge, beginTransferOne, takeBus, beginTransferTwo, giveBack, reset, afterMethod}
 use Rattle.bus.specs.declared.state.Bus.{Bus}
 
 -- ---- Cards 4, 9 and 10 contend, nobody drives (M1 to M6)
@@ -91,7 +91,7 @@ columns bus = bus .phase ∷ bus .granted ∷ linesOf bus ∷ signalsIn (bus .ph
 -- those of the first state, and of the state after each method
 abbrev pub columnsOf : Bus → List Method → List (List ℕ)
 columnsOf bus [] = columns bus ∷ []
-columnsOf bus (method ∷ methods) = columns bus ∷ columnsOf (after method bus) methods
+columnsOf bus (method ∷ methods) = columns bus ∷ columnsOf (afterMethod method bus) methods
 
 pub record PrintedRun : Type 0 where
   pub atFirst : setupOf 0x000A pages ≡ record { answer = Refusal.accepted; bus = stateOf 0x000A pages Phase.free 0 silent 0xFF }
@@ -110,7 +110,7 @@ pub record PrintedRun : Type 0 where
       ∷ (0x00 ∷ 0xFF ∷ 0x00 ∷ 0x00 ∷ [])
       ∷ []
   -- given back, the bus is what it was at first
-  pub back : after (giveBack 3) (stateOf 0x000A pages Phase.transferTwo 0 silent 3) ≡ setUp
+  pub back : afterMethod (giveBack 3) (stateOf 0x000A pages Phase.transferTwo 0 silent 3) ≡ setUp
 
 -- ---- Card 0, and a card's own bits
 
@@ -139,11 +139,11 @@ pub record OutOfTurn : Type 0 where
   pub lookOutside : lookedBy (stateOf 0x000A pages Phase.granted 0x0002 silent 3) 1 ≡ stateOf 0x000A pages Phase.granted 0x0002 silent 3
   pub lookOfNoCard : lookedBy (requested setUp 0x0002) 17 ≡ requested setUp 0x0002
   pub acknowledgeNobody : acknowledged (stateOf 0x000A pages Phase.arbitration 0 silent 0xFF) ≡ stateOf 0x000A pages Phase.arbitration 0 silent 0xFF
-  pub otherCard : after (beginTransferOne 1) grantedThree ≡ grantedThree
-  pub tooSoon : after (takeBus 3) grantedThree ≡ grantedThree
-  pub notOwned : after (beginTransferTwo 3) grantedThree ≡ grantedThree
-  pub notYet : after (giveBack 3) grantedThree ≡ grantedThree
-  pub resetAnyhow : after reset grantedThree ≡ setUp
+  pub otherCard : afterMethod (beginTransferOne 1) grantedThree ≡ grantedThree
+  pub tooSoon : afterMethod (takeBus 3) grantedThree ≡ grantedThree
+  pub notOwned : afterMethod (beginTransferTwo 3) grantedThree ≡ grantedThree
+  pub notYet : afterMethod (giveBack 3) grantedThree ≡ grantedThree
+  pub resetAnyhow : afterMethod reset grantedThree ≡ setUp
 
 -- ---- Sense and setup
 

@@ -1,4 +1,4 @@
--- The methods that hand a state back, as one list, so that what holds of all of them is said once.
+-- The methods that hand a state back (01, "Choosing the form by place"), as one list, so that what holds of all of them is said once.
 use Prim.Native.Nat.{ℕ}
 use mathlib.Core.List.{List}
 use Rattle.bus.specs.Steps.{requested, lookedBy, acknowledged, transferOneBegun, busTaken, transferTwoBegun, givenBack, resetTo}
@@ -19,13 +19,13 @@ pub data Method : Type 0 where
   -- a list of cards
   settle : List ℕ → Method
 
-abbrev pub after : Method → Bus → Bus
-after (request cards) bus = requested bus cards
-after (look card) bus = lookedBy bus card
-after acknowledge bus = acknowledged bus
-after (beginTransferOne card) bus = transferOneBegun bus card
-after (takeBus card) bus = busTaken bus card
-after (beginTransferTwo card) bus = transferTwoBegun bus card
-after (giveBack card) bus = givenBack bus card
-after reset bus = resetTo bus
-after (settle cards) bus = settleOf bus cards .bus
+abbrev pub afterMethod : Method → Bus → Bus
+afterMethod (request cards) bus = requested bus cards
+afterMethod (look card) bus = lookedBy bus card
+afterMethod acknowledge bus = acknowledged bus
+afterMethod (beginTransferOne card) bus = transferOneBegun bus card
+afterMethod (takeBus card) bus = busTaken bus card
+afterMethod (beginTransferTwo card) bus = transferTwoBegun bus card
+afterMethod (giveBack card) bus = givenBack bus card
+afterMethod reset bus = resetTo bus
+afterMethod (settle cards) bus = settleOf bus cards .bus

@@ -1,4 +1,5 @@
--- What is promised of the bus and its methods. The proof of each stands in proofs/ under its name in lower case, with hyphens.
+-- What is promised of the bus and its methods (01, "State and phases", "Looking and settling"). The proof of each
+-- stands in proofs/ under its name in lower case, with hyphens.
 use Prim.Native.Nat.{ℕ, _<_, _≤_}
 use mathlib.Core.Path.{_≡_}
 use mathlib.Core.Logic.{_↔_}
@@ -16,7 +17,7 @@ use Rattle.bus.specs.Setup.{emptyBus, setupOf}
 use Rattle.bus.specs.Steps.{requested, afterLooksOf, acknowledged}
 use Rattle.phases.specs.Signal.{HOLD, pHLDA, isOn, signalsIn}
 use Rattle.bus.specs.Settle.{settleReasons, listRefusal, settleOf}
-use Rattle.bus.specs.Method.{Method, after}
+use Rattle.bus.specs.Method.{Method, afterMethod}
 use Rattle.bus.specs.declared.state.Bus.{Bus}
 use Rattle.bus.specs.declared.settle.Settlement.{Settlement}
 
@@ -42,11 +43,11 @@ SenseMeans = (bus : Bus) → (makesSense bus ≡ true) ↔ Sensible bus
 
 -- A state that makes sense still does after any method,
 abbrev pub SenseKept : Type 0
-SenseKept = (method : Method) (bus : Bus) → makesSense bus ≡ true → makesSense (after method bus) ≡ true
+SenseKept = (method : Method) (bus : Bus) → makesSense bus ≡ true → makesSense (afterMethod method bus) ≡ true
 
 -- and no method changes the fitted cards or the pages, of any state.
 abbrev pub CardsAndPagesKept : Type 0
-CardsAndPagesKept = (method : Method) (bus : Bus) → (after method bus .fitted ≡ bus .fitted) × (after method bus .pages ≡ bus .pages)
+CardsAndPagesKept = (method : Method) (bus : Bus) → (afterMethod method bus .fitted ≡ bus .fitted) × (afterMethod method bus .pages ≡ bus .pages)
 
 -- ---- Setup
 

@@ -15,7 +15,7 @@ use Rattle.phases.specs.Kind as Kind
 use Rattle.memory.specs.Cycles.{afterByteWrite, afterWordWrite}
 use Rattle.memory.proofs.Keeps.{byte-write-keeps, word-write-keeps}
 use Rattle.bus.specs.Sense.{makesSense}
-use Rattle.bus.specs.Method.{Method, request, look, acknowledge, beginTransferOne, takeBus, beginTransferTwo, giveBack, reset, after as afterMethod}
+use Rattle.bus.specs.Method.{Method, request, look, acknowledge, beginTransferOne, takeBus, beginTransferTwo, giveBack, reset, afterMethod}
 use Rattle.bus.specs.declared.state.Bus.{Bus}
 use Rattle.bus.proofs.Kept.{sense-kept, cards-and-pages-kept}
 use Rattle.judgement.specs.Table.{Row, rowIn, rowOf}

@@ -1,4 +1,4 @@
--- The bus with what stands on it: an event is given all three, and leaves all three.
+-- The bus with the memory and the ports of 01, "The bus that is modelled": an event is given all three, and leaves all three.
 use Prim.Native.Nat.{ℕ}
 use mathlib.Core.List.{List}
 use Rattle.bus.specs.declared.state.Bus.{Bus}

@@ -1,4 +1,5 @@
--- What is promised of the step of one event. The proof of each stands in proofs/ under its name in lower case, with hyphens.
+-- What is promised of the step of one event (01, "Events", "Bytes, words, status", "Refusals and their order"). The proof of each
+-- stands in proofs/ under its name in lower case, with hyphens.
 use Prim.Native.Nat.{ℕ, _+_, _/_, _<_, _≤_}
 use mathlib.Core.Path.{_≡_}
 use mathlib.Core.Logic.{_⊎_, _↔_}

@@ -1,4 +1,5 @@
--- What is promised of the judgement. The proof of each stands in proofs/ under its name in lower case, with hyphens.
+-- What is promised of the judgement (01, "Events", "Refusals and their order"). The proof of each
+-- stands in proofs/ under its name in lower case, with hyphens.
 use Prim.Native.Nat.{ℕ, _≤_}
 use mathlib.Core.Path.{_≡_}
 use mathlib.Core.Logic.{_↔_}

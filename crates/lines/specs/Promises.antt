@@ -142,7 +142,7 @@ LevelsInRange = (a : Arbitration) (levels : List ℕ) → InRange a levels → (
 abbrev pub LinesInRange : Type 0
 LinesInRange = (a : Arbitration) (levels : List ℕ) → InRange a levels → shown a levels < 2 ^ a .width
 
--- ---- The same where a list names the contenders
+-- ---- The same where a list names the contenders, for 02, CR 13; 01 has no such list
 
 -- the numbers are below 2 to the power w, and no two are the same
 pub record DistinctBelow (w : ℕ) (numbers : List ℕ) : Type 0 where

@@ -42,7 +42,7 @@ gangedWrite datum = inOneCycle datum
 abbrev pub afterGangedWrite : List ℕ → ℕ → ℕ → List ℕ
 afterGangedWrite m a datum = take a m ++ (evenHalf datum ∷ oddHalf datum ∷ []) ++ drop (a + 2) m
 
--- ---- A word byte by byte: two byte cycles, the even address first (000, 2.6.5.1)
+-- ---- A word byte by byte: two byte cycles (000, 2.6.5.1), the even address first (01, "Bytes, words, status")
 
 -- what two byte cycles moved, as one word, and how many bus cycles both took
 abbrev pub together : Moved → Moved → Moved

@@ -1,4 +1,5 @@
--- A word's datum and its two bytes: the even-addressed one is the high half, ED, and the odd-addressed one the low half, OD (000, 2.6.3; 01, "Bytes, words, status").
+-- A word's datum and its two bytes: the even-addressed one goes by ED and the odd-addressed one by OD (000, 2.6.3), and in the datum the first is
+-- the high half (01, "Bytes, words, status", house; the standard calls neither byte high).
 use Prim.Native.Nat.{ℕ, _+_, _*_, _/_, _%_}
 
 -- what ED, the DO lines, carry

@@ -1,4 +1,5 @@
--- What is promised of runs of events. The proof of each stands in proofs/ under its name in lower case, with hyphens.
+-- What is promised of runs of events (the third demand, and 01, "Marked for proof"). The proof of each
+-- stands in proofs/ under its name in lower case, with hyphens.
 use Prim.Native.Nat.{ℕ, _<_, _≤_}
 use mathlib.Core.Path.{_≡_}
 use mathlib.Core.Logic.{_↔_}

@@ -1,4 +1,5 @@
--- What each call answers, and what it leaves in the buffers that it was lent. Where a length is wrong, nothing is written.
+-- What each call answers, and what it leaves in the buffers that it was lent. Where a length is wrong, nothing is written. With the
+-- right lengths it is 01's setup, event or settle.
 use Prim.Native.Nat.{ℕ}
 use mathlib.Core.Bool.{Bool, cond, not, _&&_}
 use mathlib.Core.List.{List}

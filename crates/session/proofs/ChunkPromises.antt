@@ -13,7 +13,7 @@ use Rattle.words.proofs.TestLaws.{true-or-false}
 use Rattle.bus.specs.Refusal as Refusal
 use Rattle.bus.specs.Sense.{makesSense}
 use Rattle.judgement.specs.Refusals.{hasWrongBuffers}
-use Rattle.text.specs.Newlines.{newline, hasNewline, firstLine, restOf, linesOf}
+use Rattle.text.specs.Newlines.{newline, hasNewline, firstLine, restOf, textLines}
 use Rattle.text.specs.Frames.{setupIn}
 use Rattle.text.specs.AnswerLine.{answerLength}
 use Rattle.text.specs.Reading.{Taken, takenOff, heldOf}
@@ -35,20 +35,20 @@ use Rattle.session.proofs.RunPromises.{cut-changes-nothing, one-said, n
 
 -- one call: what it says, with what comes of what it holds, is what would have come
 one-call : (r : Run) (size : ℕ) (chunk more : List ℕ)
-    → r .said ++ answers (r .world) (linesOf (r .held ++ (chunk ++ more)))
-    ≡ fedWith r size chunk .said ++ answers (fedWith r size chunk .world) (linesOf (fedWith r size chunk .held ++ more))
+    → r .said ++ answers (r .world) (textLines (r .held ++ (chunk ++ more)))
+    ≡ fedWith r size chunk .said ++ answers (fedWith r size chunk .world) (textLines (fedWith r size chunk .held ++ more))
 one-call r size chunk more =
     let n = linesFor (r .world .session .stage) (size / answerLength) in
     let t = takes size (r .world) (r .held ++ chunk) in
-    ap (λ (l : List ℕ). r .said ++ answers (r .world) (linesOf l)) (sym (append-assoc (r .held) chunk more))
+    ap (λ (l : List ℕ). r .said ++ answers (r .world) (textLines l)) (sym (append-assoc (r .held) chunk more))
     ∙ ap (λ (l : List ℕ). r .said ++ l) (taken-is-the-whole World says turns n (r .world) (r .held ++ chunk) more)
-    ∙ sym (append-assoc (r .said) (t .said) (answers (t .state) (linesOf (t .rest ++ more))))
+    ∙ sym (append-assoc (r .said) (t .said) (answers (t .state) (textLines (t .rest ++ more))))
     ∙ ap (λ (l : List ℕ). r .said ++ t .said ++ l) (sym (held-is-enough World says turns cut-changes-nothing (t .state) (t .rest) more))
 
 all-calls : (calls : List (ℕ × List ℕ)) (r : Run)
-    → r .said ++ answers (r .world) (linesOf (r .held ++ wholeText calls)) ≡ fedAll r calls .said ++ answers (fedAll r calls .world) (linesOf (fedAll r calls .held))
+    → r .said ++ answers (r .world) (textLines (r .held ++ wholeText calls)) ≡ fedAll r calls .said ++ answers (fedAll r calls .world) (textLines (fedAll r calls .held))
 unfolding fedAll wholeText
-all-calls [] r = ap (λ (l : List ℕ). r .said ++ answers (r .world) (linesOf l)) (append-nil (r .held))
+all-calls [] r = ap (λ (l : List ℕ). r .said ++ answers (r .world) (textLines l)) (append-nil (r .held))
 all-calls (call ∷ calls) r = one-call r (call .0) (call .1) (wholeText calls) ∙ all-calls calls (fedWith r (call .0) (call .1))
 
 pub any-chunks : AnyChunks
@@ -238,7 +238,7 @@ ended-take text held some within none =
     ap (λ (k : ℕ). take k (set text held newline)) one ∙ take-suc-set text held newline within)
 
 finished-said : (w : World) (text : List ℕ) (held size : ℕ) → held < length text → hasNewline (take held text) ≡ false → 19 ≤ size
-    → takesLast size w text held .said ≡ answers w (linesOf (take held text))
+    → takesLast size w text held .said ≡ answers w (textLines (take held text))
 finished-said w text zero size within none room =
     ap (λ (t : Taken World). t .said) (taken-none says turns (linesFor (w .session .stage) (size / 19)) w [] no-newline)
     ∙ sym (ap (answers w) (line-unended [] no-newline ∙ last-none) ∙ none-said w)
@@ -286,5 +286,5 @@ whole-run calls text out same within none room =
     let accepted = sound-accepted (r .world) text (length (r .held)) (fed-sound calls begun fresh-is-sound) within in
     let unended : hasNewline (take (length (r .held)) text) ≡ false = subst (λ (l : List ℕ). hasNewline l ≡ false) (sym same) none in
     ap (λ (l : List ℕ). r .said ++ l) (
-    finished-in-place (r .world) text (length (r .held)) out accepted within unended room ∙ ap (λ (l : List ℕ). answers (r .world) (linesOf l)) same)
+    finished-in-place (r .world) text (length (r .held)) out accepted within unended room ∙ ap (λ (l : List ℕ). answers (r .world) (textLines l)) same)
     ∙ any-chunks calls

@@ -23,7 +23,7 @@ use Rattle.events.specs.Step.{after, refusalIn}
 use Rattle.events.proofs.Refused.{refused-keeps}
 use Rattle.events.proofs.Stays.{lengths-kept}
 use Rattle.text.specs.Digits.{isDigit, isDigits, valueOf}
-use Rattle.text.specs.Newlines.{lastLine, linesAfter, linesOf}
+use Rattle.text.specs.Newlines.{lastLine, linesAfter, textLines}
 use Rattle.text.specs.Frames.{eventDigits, eventIn, setupDigits, setupIn, part, fittedIn, pagesIn}
 use Rattle.text.specs.AnswerLine.{answerLine}
 use Rattle.text.specs.Reading.{answersTo}
@@ -184,7 +184,7 @@ awaiting-long bus m p (line ∷ lines) = go (ℕ-discrete (setupNumber line) Ref
 
 pub one-answer-a-line : OneAnswerALine
 unfolding freshWorld
-one-answer-a-line text = awaiting-long emptyBus (freshWorld .memory) (freshWorld .ports) (linesOf text)
+one-answer-a-line text = awaiting-long emptyBus (freshWorld .memory) (freshWorld .ports) (textLines text)
 
 -- ---- Sound
 

@@ -1,4 +1,4 @@
--- A text handed over in chunks, a call each.
+-- A text handed over in chunks, a call each: for the promise that chunks make no difference.
 use Prim.Native.Nat.{ℕ}
 use mathlib.Core.List.{List, [], _∷_, _++_}
 use Rattle.text.specs.Reading.{heldOf}

@@ -1,5 +1,5 @@
 -- A call that is given the text read so far: it answers lines that have ended, the setup line alone or as many events as there is room for, and
--- holds the rest.
+-- holds the rest (01, "The program and one whole run": lines, the end of the input, refused setup).
 use Prim.Native.Nat.{ℕ, _+_, _-_, _/_, min}
 use mathlib.Core.Bool.{Bool, cond, _&&_, not}
 use mathlib.Core.List.{List, _++_}

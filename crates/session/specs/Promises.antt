@@ -15,7 +15,7 @@ use Rattle.events.specs.Machine.{Machine}
 use Rattle.events.specs.Answers.{bare}
 use Rattle.events.specs.Step.{refusalIn, after, answerTo}
 use Rattle.text.specs.Digits.{isDigits}
-use Rattle.text.specs.Newlines.{newline, hasNewline, linesOf}
+use Rattle.text.specs.Newlines.{newline, hasNewline, textLines}
 use Rattle.text.specs.Frames.{eventDigits, eventIn, setupIn, longest}
 use Rattle.text.specs.AnswerLine.{answerLine, answerLength}
 use Rattle.text.specs.Reading.{heldOf}
@@ -75,7 +75,7 @@ answered (line ∷ lines) = cond (eqb (setupNumber line) Refusal.accepted) (1 + 
 
 -- As many answer lines as lines; one alone where setup is refused.
 abbrev pub OneAnswerALine : Type 0
-OneAnswerALine = (text : List ℕ) → length (output text) ≡ answered (linesOf text) * answerLength
+OneAnswerALine = (text : List ℕ) → length (output text) ≡ answered (textLines text) * answerLength
 
 -- Whatever the lines, the state makes sense and the buffers keep their lengths, so that 01 and 02 are never answered.
 abbrev pub StaysSound : Type 0
@@ -96,7 +96,7 @@ StartsAtZero = (k : ℕ) → (getD (freshWorld .memory) k 0 ≡ 0) × (getD (fre
 abbrev pub AnyChunks : Type 0
 AnyChunks =
     (calls : List (ℕ × List ℕ))
-    → fedAll begun calls .said ++ answers (fedAll begun calls .world) (linesOf (fedAll begun calls .held)) ≡ output (wholeText calls)
+    → fedAll begun calls .said ++ answers (fedAll begun calls .world) (textLines (fedAll begun calls .held)) ≡ output (wholeText calls)
 
 -- A call that finds a newline in a session that goes on, and room for an answer, answers a line: so nothing complete stays held.
 abbrev pub CallsGoOn : Type 0
@@ -151,7 +151,7 @@ abbrev pub FinishedInPlace : Type 0
 FinishedInPlace =
     (w : World) (text : List ℕ) (held : ℕ) (out : List ℕ) → feedRefusal (w .session .bus) (w .memory) (w .ports) text held ≡ Refusal.accepted
     → held < length text → hasNewline (take held text) ≡ false → answerLength ≤ length out
-    → take (finishedOf w text held out .written) (finishedOut w text held out) ≡ answers w (linesOf (take held text))
+    → take (finishedOf w text held out .written) (finishedOut w text held out) ≡ answers w (textLines (take held text))
 
 -- So a whole run prints the output: calls on any chunks until no newline is held, and then a finish on a text that holds the rest and has
 -- room for a newline, with room for an answer.

@@ -9,7 +9,7 @@ use lib.Dec.{eqb}
 use lib.ListN.{length, take, length-take}
 use lib.Seq.{append-snoc, take-take}
 use Rattle.words.proofs.TestLaws.{true-or-false, neither-of}
-use Rattle.text.specs.Newlines.{newline, hasNewline, firstLine, restOf, lastLine, linesAfter, linesOf}
+use Rattle.text.specs.Newlines.{newline, hasNewline, firstLine, restOf, lastLine, linesAfter, textLines}
 use Rattle.text.specs.Frames.{longest}
 use Rattle.text.specs.Reading.{answersTo, takenOff}
 use Rattle.text.specs.Promises.{LineEnded, LineUnended, SplitsAtNewline, HeldIsShort, TakenIsTheWhole, HeldIsEnough}
@@ -19,7 +19,7 @@ use Rattle.text.proofs.ReadingLaws.{taken-line, taken-none, none-taken}
 -- ---- Lines
 
 -- a line goes on as long as no newline comes
-ended-after : (held line text : List ℕ) → hasNewline line ≡ false → linesAfter held (line ++ newline ∷ text) ≡ (held ++ line) ∷ linesOf text
+ended-after : (held line text : List ℕ) → hasNewline line ≡ false → linesAfter held (line ++ newline ∷ text) ≡ (held ++ line) ∷ textLines text
 unfolding linesAfter hasNewline
 ended-after held [] text none = ap (λ (l : List ℕ). l ∷ linesAfter [] text) (sym (append-nil held))
 ended-after held (b ∷ line) text none =
@@ -47,7 +47,7 @@ begun-at front (b ∷ line) text none =
     let both = neither-of (eqb b newline) (hasNewline line) none in
     rw (both .0) (begun-at (front ++ b ∷ []) line text (both .1) ∙ ap (λ (l : List ℕ). linesAfter l text) (append-snoc front b line))
 
-begun : (held text : List ℕ) → hasNewline held ≡ false → linesOf (held ++ text) ≡ linesAfter held text
+begun : (held text : List ℕ) → hasNewline held ≡ false → textLines (held ++ text) ≡ linesAfter held text
 begun held text none = begun-at [] held text none
 
 first-has-none : (text : List ℕ) → hasNewline (firstLine text) ≡ false
@@ -56,10 +56,10 @@ first-has-none =
     by-newline (λ text. hasNewline (firstLine text) ≡ false) refl (λ b text t. rw t refl) (λ b text t so. rw t (rw t so))
 
 -- the first line, and then the lines of the rest
-lines-first : (text more : List ℕ) → hasNewline text ≡ true → linesOf (text ++ more) ≡ firstLine text ∷ linesOf (restOf text ++ more)
+lines-first : (text more : List ℕ) → hasNewline text ≡ true → textLines (text ++ more) ≡ firstLine text ∷ textLines (restOf text ++ more)
 lines-first text more has =
-    ap (λ (l : List ℕ). linesOf (l ++ more)) (splits text has)
-    ∙ ap linesOf (append-assoc (firstLine text) (newline ∷ restOf text) more)
+    ap (λ (l : List ℕ). textLines (l ++ more)) (splits text has)
+    ∙ ap textLines (append-assoc (firstLine text) (newline ∷ restOf text) more)
     ∙ line-ended (firstLine text) (restOf text ++ more) (first-has-none text)
 
 -- ---- In pieces
@@ -71,8 +71,8 @@ module _ (S : Type 0) (says : S → List ℕ → List ℕ) (turns : S → List �
   one-answered s line lines = refl
 
   taken-whole : (n : ℕ) (s : S) (text more : List ℕ)
-      → answersTo says turns s (linesOf (text ++ more))
-      ≡ takenOff says turns n s text .said ++ answersTo says turns (takenOff says turns n s text .state) (linesOf (takenOff says turns n s text .rest ++ more))
+      → answersTo says turns s (textLines (text ++ more))
+      ≡ takenOff says turns n s text .said ++ answersTo says turns (takenOff says turns n s text .state) (textLines (takenOff says turns n s text .rest ++ more))
   taken-whole zero s text more = rw (none-taken says turns s text) refl
   taken-whole (suc n) s text more =
       ⊎-elim
@@ -80,9 +80,9 @@ module _ (S : Type 0) (says : S → List ℕ → List ℕ) (turns : S → List �
       let t = takenOff says turns n (turns s (firstLine text)) (restOf text) in
       rw (taken-line says turns n s text has) (
       ap (answersTo says turns s) (lines-first text more has)
-      ∙ one-answered s (firstLine text) (linesOf (restOf text ++ more))
+      ∙ one-answered s (firstLine text) (textLines (restOf text ++ more))
       ∙ ap (λ (l : List ℕ). says s (firstLine text) ++ l) (taken-whole n (turns s (firstLine text)) (restOf text) more)
-      ∙ sym (append-assoc (says s (firstLine text)) (t .said) (answersTo says turns (t .state) (linesOf (t .rest ++ more))))))
+      ∙ sym (append-assoc (says s (firstLine text)) (t .said) (answersTo says turns (t .state) (textLines (t .rest ++ more))))))
       (λ (none : hasNewline text ≡ false). rw (taken-none says turns (suc n) s text none) refl)
       (true-or-false (hasNewline text))
 

@@ -16,9 +16,9 @@ use Rattle.words.proofs.ListLaws.{every-at, every-of}
 use Rattle.judgement.specs.Table.{eventOf}
 use Rattle.judgement.specs.declared.event.Event.{Event}
 use Rattle.text.specs.Digits.{isDigit, valueOf, digitOf, numberAfter, numberOf, digitsOf, isDigits}
-use Rattle.text.specs.Frames.{part, eventIn, eventLine, setupLine}
-use Rattle.text.specs.AnswerLine.{answerDigits, answerLine, answerIn}
-use Rattle.text.specs.Promises.{DigitsReadBack, NumbersReadBack, EventReadsBack, SetupReadsBack, AnswerReadsBack, EventFits}
+use Rattle.text.specs.Frames.{part, eventIn}
+use Rattle.text.specs.AnswerLine.{answerDigits, answerLine}
+use Rattle.text.specs.Promises.{eventLine, setupLine, answerIn, DigitsReadBack, NumbersReadBack, EventReadsBack, SetupReadsBack, AnswerReadsBack, EventFits}
 use Rattle.events.specs.declared.answers.Answer.{Answer}
 use Rattle.text.proofs.DigitLaws.{digit-kinds, value-small}
 use Rattle.text.proofs.ReadingLaws.{answer-long}

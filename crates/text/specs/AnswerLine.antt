@@ -6,9 +6,8 @@ use lib.Dec.{leb}
 use lib.ListN.{length}
 use lib.Seq.{sets}
 use Rattle.events.specs.declared.answers.Answer.{Answer}
-use Rattle.text.specs.Digits.{numberOf, digitsOf}
+use Rattle.text.specs.Digits.{digitsOf}
 use Rattle.text.specs.Newlines.{newline}
-use Rattle.text.specs.Frames.{part}
 
 abbrev pub answerDigits : Answer → List ℕ
 answerDigits a =
@@ -27,19 +26,6 @@ answerLine a = answerDigits a ++ newline ∷ []
 -- bytes of an answer line
 abbrev pub answerLength : ℕ
 answerLength = 19
-
--- an answer line read again
-abbrev pub answerIn : List ℕ → Answer
-answerIn line = record {
-  refusal = numberOf (part 0 2 line);
-  phase = numberOf (part 2 2 line);
-  granted = numberOf (part 4 2 line);
-  lines = numberOf (part 6 2 line);
-  signals = numberOf (part 8 2 line);
-  status = numberOf (part 10 2 line);
-  cycles = numberOf (part 12 2 line);
-  datum = numberOf (part 14 4 line);
-}
 
 -- what a place holds once the line is put at its front: a place that is too short is left alone
 abbrev pub printed : Answer → List ℕ → List ℕ

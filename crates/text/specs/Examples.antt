@@ -9,7 +9,7 @@ use Rattle.judgement.specs.Table.{eventOf}
 use Rattle.events.specs.declared.answers.Answer.{Answer}
 use Rattle.text.specs.declared.frames.Line.{Line}
 use Rattle.text.specs.Digits.{isDigit, valueOf, digitOf, isDigits}
-use Rattle.text.specs.Newlines.{newline, linesOf}
+use Rattle.text.specs.Newlines.{newline, textLines}
 use Rattle.text.specs.Frames.{eventIn, setupIn, nextLine}
 use Rattle.text.specs.AnswerLine.{answerLine, printed, bytesPut}
 use Rattle.text.specs.Reading.{heldOf}
@@ -88,12 +88,12 @@ pub record AnswerInPlace : Type 0 where
 -- ---- Lines
 
 pub record LinesOfTexts : Type 0 where
-  pub nothing : linesOf [] ≡ []
-  pub newlineAlone : linesOf (newline ∷ []) ≡ [] ∷ []
-  pub ended : linesOf (0x41 ∷ newline ∷ []) ≡ (0x41 ∷ []) ∷ []
-  pub unended : linesOf (0x41 ∷ newline ∷ 0x42 ∷ []) ≡ (0x41 ∷ []) ∷ (0x42 ∷ []) ∷ []
-  pub emptyBetween : linesOf (0x41 ∷ newline ∷ newline ∷ 0x42 ∷ []) ≡ (0x41 ∷ []) ∷ [] ∷ (0x42 ∷ []) ∷ []
-  pub carriageReturn : linesOf (0x41 ∷ 0x0D ∷ newline ∷ []) ≡ (0x41 ∷ 0x0D ∷ []) ∷ []
+  pub nothing : textLines [] ≡ []
+  pub newlineAlone : textLines (newline ∷ []) ≡ [] ∷ []
+  pub ended : textLines (0x41 ∷ newline ∷ []) ≡ (0x41 ∷ []) ∷ []
+  pub unended : textLines (0x41 ∷ newline ∷ 0x42 ∷ []) ≡ (0x41 ∷ []) ∷ (0x42 ∷ []) ∷ []
+  pub emptyBetween : textLines (0x41 ∷ newline ∷ newline ∷ 0x42 ∷ []) ≡ (0x41 ∷ []) ∷ [] ∷ (0x42 ∷ []) ∷ []
+  pub carriageReturn : textLines (0x41 ∷ 0x0D ∷ newline ∷ []) ≡ (0x41 ∷ 0x0D ∷ []) ∷ []
 
 -- An unended line is held up to its twenty-first byte; a text with a newline is held whole.
 pub record Held : Type 0 where

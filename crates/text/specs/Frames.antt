@@ -1,7 +1,7 @@
 -- The setup line and the event line, field by field, and what a text begins with (01, "The program and one whole run").
 use Prim.Native.Nat.{ℕ, _+_}
 use mathlib.Core.Bool.{cond}
-use mathlib.Core.List.{List, _++_, map}
+use mathlib.Core.List.{List, map}
 use lib.ListN.{length, take, drop, replicate}
 use Rattle.bus.specs.Refusal.{accepted, badLine}
 use Rattle.judgement.specs.Table.{eventOf}
@@ -9,7 +9,7 @@ use Rattle.judgement.specs.declared.event.Event.{Event}
 use Rattle.text.specs.declared.frames.Line.{Line}
 use Rattle.text.specs.declared.frames.Line.the-variants.{Frame, Bad, Unended}
 use Rattle.text.specs.declared.frames.SetupLine.{SetupLine}
-use Rattle.text.specs.Digits.{valueOf, digitOf, numberOf, digitsOf, isDigits}
+use Rattle.text.specs.Digits.{valueOf, numberOf, isDigits}
 use Rattle.text.specs.Newlines.{hasNewline, firstLine}
 
 -- so many digits of a line from a place on
@@ -23,10 +23,6 @@ eventDigits = 14
 
 abbrev pub eventIn : List ℕ → Event
 eventIn line = eventOf (numberOf (part 0 2 line)) (numberOf (part 2 2 line)) (numberOf (part 4 6 line)) (numberOf (part 10 4 line))
-
--- an event as it is written
-abbrev pub eventLine : Event → List ℕ
-eventLine event = digitsOf 2 (event .kind) ++ digitsOf 2 (event .speaker) ++ digitsOf 6 (event .address) ++ digitsOf 4 (event .datum)
 
 -- What a text begins with: a line with an event, a bad line of so many bytes, or a line that isn't ended yet.
 abbrev pub nextLine : List ℕ → Line
@@ -61,9 +57,6 @@ fittedIn line = numberOf (part 0 4 line)
 
 abbrev pub pagesIn : List ℕ → List ℕ
 pagesIn line = map valueOf (part 4 16 line)
-
-abbrev pub setupLine : ℕ → List ℕ → List ℕ
-setupLine fitted pages = digitsOf 4 fitted ++ map digitOf pages
 
 abbrev pub setupIn : List ℕ → SetupLine
 setupIn line =

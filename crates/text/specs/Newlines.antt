@@ -32,5 +32,5 @@ unfoldable pub linesAfter : List ℕ → List ℕ → List (List ℕ)
 linesAfter held [] = lastLine held
 linesAfter held (b ∷ text) = cond (eqb b newline) (held ∷ linesAfter [] text) (linesAfter (held ++ b ∷ []) text)
 
-abbrev pub linesOf : List ℕ → List (List ℕ)
-linesOf text = linesAfter [] text
+abbrev pub textLines : List ℕ → List (List ℕ)
+textLines text = linesAfter [] text

@@ -1,4 +1,4 @@
--- A text read line by line, whatever the lines mean: `says` is what a line is answered in some state, `turns` is the state that it leads to.
+-- A text read line by line, the rest of it handed on (01, "The program and one whole run"), whatever the lines mean: `says` is what a line is answered in some state, `turns` is the state that it leads to.
 use Prim.Native.Nat.{ℕ, zero, suc, _+_}
 use mathlib.Core.Bool.{cond}
 use mathlib.Core.List.{List, [], _∷_, _++_}
