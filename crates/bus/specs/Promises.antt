@@ -51,7 +51,7 @@ CardsAndPagesKept = (method : Method) (bus : Bus) → (afterMethod method bus .f
 
 -- ---- Setup
 
--- Setup refuses exactly where a code is above 2, and then answers the bus without cards and pages;
+-- Setup refuses where a code is above 2, and then answers the bus without cards and pages;
 abbrev pub SetupRefuses : Type 0
 SetupRefuses =
     (fitted : ℕ) (pages : List ℕ) (p : ℕ) → p < length pages → 2 < getD pages p 0

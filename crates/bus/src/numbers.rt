@@ -1,4 +1,4 @@
-// The granted card's place and the answers, under the names that specs/ has for them.
+// The number for nobody and those of the answers, under the names that specs/ has for them.
 
 // Nobody is granted.
 pub const NOBODY: u8 = 0xFF;

@@ -1,2 +1,2 @@
--- What the functions below judge promise their callers. What is promised of judge itself is in judgement.
+-- What the inner functions of `judge` promise. What `judge` itself promises is in `judgement`.
 pub mod Turns

@@ -181,7 +181,7 @@ ListedSettledUnique =
 
 -- ---- The four lines of this bus, with the levels of its sixteen cards
 
--- Four rounds settle them at the highest contender, from any levels that four lines can hold.
+-- Whatever levels four lines can hold at first, four rounds settle them at the number of the highest contender.
 abbrev pub FourRoundsSettle : Type 0
 FourRoundsSettle =
     (contends : ℕ → Bool) (m : ℕ) → Highest (fourLines contends) m

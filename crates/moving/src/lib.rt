@@ -1,4 +1,4 @@
-// Byte and word cycles on a memory of any length: specs/Cycles says what each moves and what it leaves.
+// Byte and word cycles on a memory of any length: specs/Cycles of `memory` says what each moves and what it leaves.
 ghost use mathlib.Core.Path.{_≡_};
 ghost use mathlib.Core.Bool.{true, false};
 ghost use Rattle.memory.specs.Cycles.{byteRead, byteWrite, afterByteWrite};

@@ -1,2 +1,2 @@
-// The phases, the kinds of cycles and what stands on the lines, by number.
+// The phases, the kinds of events and what stands on the lines, by number.
 pub mod numbers;

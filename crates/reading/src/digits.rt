@@ -1,4 +1,4 @@
-// Hexadecimal digits, read and written without a branch on their kind: which of the two kinds comes next can't be foreseen.
+// Hexadecimal digits, read without a branch on their kind: which of the two kinds comes next can't be foreseen.
 ghost use mathlib.Core.Bool.{true};
 ghost use mathlib.Core.Path.{_≡_};
 ghost use Prim.Native.Nat.{_%_};

@@ -1,4 +1,4 @@
--- `memory::byte_read` meets its contract: the test of the bound picks the case, and an element of the slice fits a datum.
+-- `moving::byte_read` meets its contract: the test of the bound picks the case, and an element of the slice fits a datum.
 -- Assumes nothing.
 use mir.Facts.{fits-8-16}
 use borrow.Author.Needs.{needs}

@@ -1,4 +1,4 @@
--- `memory::byte_write` meets its contract: the test of the bound picks the case, and beyond the end `set` changes nothing.
+-- `moving::byte_write` meets its contract: the test of the bound picks the case, and beyond the end `set` changes nothing.
 -- Assumes nothing.
 use mathlib.Core.Path.{sym}
 use lib.Seq.{set-out}

@@ -1,4 +1,4 @@
--- `memory::get_both` meets its contract: the pair's two entries are bytes, so the datum fits.
+-- `moving::get_both` meets its contract: the pair's two entries are bytes, so the datum fits.
 -- Assumes nothing.
 use mathlib.Core.Path.{sym}
 use native.Mathlib.Omega.{arith}

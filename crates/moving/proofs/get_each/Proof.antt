@@ -1,4 +1,4 @@
--- `memory::get_each` meets its contract: what two byte cycles read is two bytes, so the datum and the count fit.
+-- `moving::get_each` meets its contract: what two byte cycles read is two bytes, so the datum and the count fit.
 -- Assumes nothing.
 use mathlib.Core.Path.{sym, ap₂, _∙_}
 use native.Mathlib.Omega.{arith}

@@ -1,4 +1,4 @@
--- `memory::put_both` meets its contract: two stores leave what both bytes at once do.
+-- `moving::put_both` meets its contract: two stores leave what both bytes at once do.
 -- Assumes nothing.
 use mathlib.Core.Path.{sym}
 use borrow.Author.Needs.{needs}

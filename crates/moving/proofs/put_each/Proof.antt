@@ -1,4 +1,4 @@
--- `memory::put_each` meets its contract: each half is a byte, so the datum and the count fit; the second cycle goes by what the first left.
+-- `moving::put_each` meets its contract: each half is a byte, so the datum and the count fit; the second cycle goes by what the first left.
 -- Assumes nothing.
 use mathlib.Core.Path.{sym, ap, ap₂, _∙_}
 use mathlib.Core.List.{List}

@@ -1,4 +1,4 @@
--- `memory::word_fits` meets its contract: the test of evenness came out one way or the other.
+-- `moving::word_fits` meets its contract: the test of evenness came out one way or the other.
 -- Assumes nothing.
 use borrow.Author.Needs.{needs}
 use borrow.Author.Tests.{eq-eqb, ne-eqb}

@@ -1,4 +1,4 @@
--- `memory::word_read` meets its contract: where the test finds a word, its pair lies in the memory and reads the same.
+-- `moving::word_read` meets its contract: where the test finds a word, its pair lies in the memory and reads the same.
 -- Assumes nothing.
 use mathlib.Core.Path.{sym, _∙_}
 use native.Mathlib.Omega.{arith}

@@ -1,4 +1,4 @@
--- `memory::word_read_pair` meets its contract: either way has the word's own.
+-- `moving::word_read_pair` meets its contract: either way has the word's own.
 -- Assumes nothing.
 use borrow.Author.Needs.{needs}
 use Rattle.moving.proofs.word_read_pair.Statement.{statement}

@@ -1,4 +1,4 @@
--- `memory::word_write` meets its contract: where the test finds a word, its pair is lent, and comes home as the word's cycle leaves it.
+-- `moving::word_write` meets its contract: where the test finds a word, its pair is lent, and comes home as the word's cycle leaves it.
 -- Assumes nothing.
 use mathlib.Core.Path.{sym, ap, _∙_}
 use Prim.Native.Nat.{_+_, _-_}
