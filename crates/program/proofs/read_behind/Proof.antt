@@ -21,5 +21,10 @@ read-behind-spec =
     (λ c κs. search needs)
     (λ c. search needs)
     (λ c. search needs)
-    (λ c. front-kept (c .before .before .before .before .before .before .before .before .before .args .text .now) (c .before .before .before .before .before .read .last .1 .0) (c .before .before .before .before .before .before .before .before .before .args .held) (length (c .before .before .before .before .before .before .before .before .before .args .text .now) - c .before .before .before .before .before .before .before .before .before .args .held) (omega arith))
+    (λ c.
+    let start = c .before .before .before .before .before .before .before .before .before in
+    let held = start .args .held in
+    let text = start .args .text .now in
+    front-kept text (c .before .before .before .before .before .read .last .1 .0) held (length text - held)
+    (omega arith))
     (λ c. search needs))

@@ -25,7 +25,12 @@ take-turns-spec =
     (λ c κs. search needs)
     (λ c κs. omega arith)
     (λ c. omega arith)
-    (λ c. (c .before .before .before .before .before .before .before .before .before .before .take-turn .kept .1 .1 .0 ∙ c .before .before .before .before .before .before .before .before .before .before .before .before .before .before .before .before .before .fill .kept .1 .0 ∙ c .before .before .before .before .before .before .before .before .before .before .before .before .before .before .before .before .before .before .before .before .loop .inv .0, (c .before .before .before .before .before .before .before .before .before .before .take-turn .kept .1 .1 .1 .0 ∙ c .before .before .before .before .before .before .before .before .before .before .before .before .before .before .before .before .before .before .before .before .loop .inv .1 .0, (c .before .before .before .before .before .before .before .before .before .before .take-turn .kept .1 .1 .1 .1 .0 ∙ c .before .before .before .before .before .before .before .before .before .before .before .before .before .before .before .before .before .before .before .before .loop .inv .1 .1 .0, c .before .before .before .before .before .before .before .before .before .before .take-turn .kept .1 .1 .1 .1 .1 .0 ∙ c .before .before .before .before .before .before .before .before .before .before .before .before .before .before .before .before .before .before .before .before .loop .inv .1 .1 .1))))
+    (λ c.
+    let atTakeTurn = c .before .before .before .before .before .before .before .before .before .before in
+    let atLoop = atTakeTurn .before .before .before .before .before .before .before .before .before .before in (
+      atTakeTurn .take-turn .kept .1 .1 .0 ∙ atTakeTurn .before .before .before .before .before .before .before .fill .kept .1 .0 ∙ atLoop .loop .inv .0,
+      (atTakeTurn .take-turn .kept .1 .1 .1 .0 ∙ atLoop .loop .inv .1 .0, (atTakeTurn .take-turn .kept .1 .1 .1 .1 .0 ∙ atLoop .loop .inv .1 .1 .0, atTakeTurn .take-turn .kept .1 .1 .1 .1 .1 .0 ∙ atLoop .loop .inv .1 .1 .1)),
+    ))
     (λ c. c .before .loop .inv .0)
     (λ c. c .before .loop .inv .1 .0)
     (λ c. c .before .loop .inv .1 .1 .0)

@@ -31,8 +31,9 @@ settle-by-spec =
     (λ c. (omega arith, (refl, λ k h. absurd (not-suc-le-zero h))))
     (λ c κs. search needs)
     (λ c.
-    let bus = c .before .before .before .before .before .args .start in
-    let cards = c .before .before .before .before .before .args .cards .now in
+    let start = c .before .before .before .before .before in
+    let bus = start .args .start in
+    let cards = start .args .cards .now in
     let inv = c .before .before .before .loop .inv .1 in
     never bus cards
     (subst (λ (n : ℕ). NotBefore bus cards (suc n)) (c .if2 .taken)
@@ -42,10 +43,12 @@ settle-by-spec =
     (λ c. omega arith)
     (λ c. omega arith)
     (λ c.
-    let bus = c .before .before .before .before .before .before .before .args .start in
-    let cards = c .before .before .before .before .before .before .before .args .cards .now in
-    let n = c .before .before .before .before .before .loop .n in
-    let inv = c .before .before .before .before .before .loop .inv .1 in (
+    let atLoop = c .before .before .before .before .before in
+    let start = atLoop .before .before in
+    let bus = start .args .start in
+    let cards = start .args .cards .now in
+    let n = atLoop .loop .n in
+    let inv = atLoop .loop .inv .1 in (
       omega arith,
       (
         c .look .ensures ∙ ap (λ (b : Bus). lookedBy b (getD cards n 0)) (inv .0) ∙ look-next bus cards n (omega arith),

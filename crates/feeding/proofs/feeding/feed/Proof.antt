@@ -13,17 +13,27 @@ feed-spec =
     (tie.spec
     (λ c κs. search needs)
     (λ c κs.
-    let s = sound (c .before .before .before .before .before .before .before .before .before .before .before .before .before .args .session .bus) (c .before .before .before .before .before .before .before .before .before .before .before .before .before .args .memory .now) (c .before .before .before .before .before .before .before .before .before .before .before .before .before .args .ports .now) (c .before .before .before .before .before .before .before .before .before .before .before .before .before .args .text .now) (c .before .before .before .before .before .before .before .before .before .before .before .before .before .args .filled) (sym (c .before .before .before .before .before .feed-refusal .ensures) ∙ c .before .before .before .before .if1 .taken) in
+    let start = c .before .before .before .before .before .before .before .before .before .before .before .before .before in
+    let s = sound (start .args .session .bus) (start .args .memory .now) (start .args .ports .now) (start .args .text .now)
+    (start .args .filled) (sym (c .before .before .before .before .before .feed-refusal .ensures) ∙ c .before .before .before .before .if1 .taken)
+    in
     (s .filled-within, (s .fit, s .sense)))
     (λ c κs. search needs)
     (λ c. search needs)
     (λ c. search needs)
     (λ c. search needs)
     (λ c. search needs)
-    (λ c. rw (eq-eqb (feedRefusal (c .before .before .before .before .before .before .before .before .before .before .before .before .before .before .before .before .before .before .before .before .before .before .args .session .bus) (c .before .before .before .before .before .before .before .before .before .before .before .before .before .before .before .before .before .before .before .before .before .before .args .memory .now) (c .before .before .before .before .before .before .before .before .before .before .before .before .before .before .before .before .before .before .before .before .before .before .args .ports .now) (c .before .before .before .before .before .before .before .before .before .before .before .before .before .before .before .before .before .before .before .before .before .before .args .text .now) (c .before .before .before .before .before .before .before .before .before .before .before .before .before .before .before .before .before .before .before .before .before .before .args .filled)) 0 (sym (c .before .before .before .before .before .before .before .before .before .before .before .before .before .before .feed-refusal .ensures) ∙ c .before .before .before .before .before .before .before .before .before .before .before .before .before .if1 .taken)) (c .before .before .before .before .before .before .before .before .take-in .ensures))
+    (λ c.
+    let start = c .before .before .before .before .before .before .before .before .before .before .before .before .before .before .before .before .before .before .before .before .before .before in
+    rw (eq-eqb (feedRefusal (start .args .session .bus) (start .args .memory .now) (start .args .ports .now) (start .args .text .now) (start .args .filled))
+    0 (sym (c .before .before .before .before .before .before .before .before .before .before .before .before .before .before .feed-refusal .ensures) ∙ c .before .before .before .before .before .before .before .before .before .before .before .before .before .if1 .taken))
+    (c .before .before .before .before .before .before .before .before .take-in .ensures))
     (λ c. search needs)
     (λ c. search needs)
     (λ c. search needs)
     (λ c.
-    rw (ne-eqb (feedRefusal (c .before .before .before .before .before .before .before .before .before .before .args .session .bus) (c .before .before .before .before .before .before .before .before .before .before .args .memory .now) (c .before .before .before .before .before .before .before .before .before .before .args .ports .now) (c .before .before .before .before .before .before .before .before .before .before .args .text .now) (c .before .before .before .before .before .before .before .before .before .before .args .filled)) 0 (λ e. c .before .if1 .left (c .before .before .feed-refusal .ensures ∙ e)))
-    (c .refused .ensures ∙ ap (λ n. refusedFed n (c .before .before .before .before .before .before .before .before .before .before .args .session) (c .before .before .before .before .before .before .before .before .before .before .args .filled)) (c .before .before .feed-refusal .ensures), (refl, (refl, (refl, refl))))))
+    let start = c .before .before .before .before .before .before .before .before .before .before in
+    let filled = start .args .filled in
+    let session = start .args .session in
+    rw (ne-eqb (feedRefusal (session .bus) (start .args .memory .now) (start .args .ports .now) (start .args .text .now) filled) 0 (λ e. c .before .if1 .left (c .before .before .feed-refusal .ensures ∙ e)))
+    (c .refused .ensures ∙ ap (λ n. refusedFed n session filled) (c .before .before .feed-refusal .ensures), (refl, (refl, (refl, refl))))))

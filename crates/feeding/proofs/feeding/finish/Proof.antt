@@ -14,20 +14,36 @@ finish-spec =
     (λ c κs. search needs)
     (λ c κs. search needs)
     (λ c κs.
-    let s = sound (c .before .before .before .before .before .before .before .before .before .before .before .before .before .before .before .before .before .args .session .bus) (c .before .before .before .before .before .before .before .before .before .before .before .before .before .before .before .before .before .args .memory .now) (c .before .before .before .before .before .before .before .before .before .before .before .before .before .before .before .before .before .args .ports .now) (c .before .before .before .before .before .before .before .before .before .before .before .before .before .before .before .before .before .args .text .now) (c .before .before .before .before .before .before .before .before .before .before .before .before .before .before .before .before .before .args .held) (sym (c .before .before .before .before .before .before .before .before .before .feed-refusal .ensures) ∙ c .before .before .before .before .before .before .before .before .if1 .taken) in
+    let start = c .before .before .before .before .before .before .before .before .before .before .before .before .before .before .before .before .before in
+    let held = start .args .held in
+    let text = start .args .text .now in
+    let s = sound (start .args .session .bus) (start .args .memory .now) (start .args .ports .now) text held
+    (sym (c .before .before .before .before .before .before .before .before .before .feed-refusal .ensures) ∙ c .before .before .before .before .before .before .before .before .if1 .taken)
+    in
     let ended = c .before .before .before .before .before .before .end-line .ensures in
-    (rw (ended .0, ended .1) (ended-within (c .before .before .before .before .before .before .before .before .before .before .before .before .before .before .before .before .before .args .text .now) (c .before .before .before .before .before .before .before .before .before .before .before .before .before .before .before .before .before .args .held) (s .filled-within)), (s .fit, s .sense)))
+    (rw (ended .0, ended .1) (ended-within text held (s .filled-within)), (s .fit, s .sense)))
     (λ c κs. search needs)
     (λ c. search needs)
     (λ c. search needs)
     (λ c. search needs)
     (λ c. search needs)
     (λ c.
-    rw (eq-eqb (feedRefusal (c .before .before .before .before .before .before .before .before .before .before .before .before .before .before .before .before .before .before .before .before .before .before .before .before .before .before .args .session .bus) (c .before .before .before .before .before .before .before .before .before .before .before .before .before .before .before .before .before .before .before .before .before .before .before .before .before .before .args .memory .now) (c .before .before .before .before .before .before .before .before .before .before .before .before .before .before .before .before .before .before .before .before .before .before .before .before .before .before .args .ports .now) (c .before .before .before .before .before .before .before .before .before .before .before .before .before .before .before .before .before .before .before .before .before .before .before .before .before .before .args .text .now) (c .before .before .before .before .before .before .before .before .before .before .before .before .before .before .before .before .before .before .before .before .before .before .before .before .before .before .args .held)) 0 (sym (c .before .before .before .before .before .before .before .before .before .before .before .before .before .before .before .before .before .before .feed-refusal .ensures) ∙ c .before .before .before .before .before .before .before .before .before .before .before .before .before .before .before .before .before .if1 .taken))
-    (finished (worldOf (c .before .before .before .before .before .before .before .before .before .before .before .before .before .before .before .before .before .before .before .before .before .before .before .before .before .before .args .session) (c .before .before .before .before .before .before .before .before .before .before .before .before .before .before .before .before .before .before .before .before .before .before .before .before .before .before .args .memory .now) (c .before .before .before .before .before .before .before .before .before .before .before .before .before .before .before .before .before .before .before .before .before .before .before .before .before .before .args .ports .now)) (c .before .before .before .before .before .before .before .before .before .before .before .before .before .before .before .before .before .before .before .before .before .before .before .before .before .before .args .text .now) (c .before .before .before .before .before .before .before .before .before .before .before .before .before .before .before .before .before .before .before .before .before .before .before .before .before .before .args .out .now) (c .before .before .before .before .before .before .before .before .before .before .before .before .before .before .before .before .before .before .before .before .before .before .before .before .before .before .args .held) _ _ _ _ _ _ _ (c .before .before .before .before .before .before .before .before .before .before .before .before .before .before .before .end-line .ensures .0) (c .before .before .before .before .before .before .before .before .before .before .before .before .before .before .before .end-line .ensures .1) (c .before .before .before .before .before .before .before .before .take-in .ensures)))
+    let atEndLine = c .before .before .before .before .before .before .before .before .before .before .before .before .before .before .before in
+    let start = atEndLine .before .before .before .before .before .before .before .before .before .before .before in
+    let held = start .args .held in
+    let memory = start .args .memory .now in
+    let ports = start .args .ports .now in
+    let session = start .args .session in
+    let text = start .args .text .now in
+    rw (eq-eqb (feedRefusal (session .bus) memory ports text held) 0 (sym (atEndLine .before .before .before .feed-refusal .ensures) ∙ atEndLine .before .before .if1 .taken))
+    (finished (worldOf session memory ports) text (start .args .out .now) held _ _ _ _ _ _ _ (atEndLine .end-line .ensures .0) (atEndLine .end-line .ensures .1)
+    (c .before .before .before .before .before .before .before .before .take-in .ensures)))
     (λ c. search needs)
     (λ c. search needs)
     (λ c. search needs)
     (λ c.
-    rw (ne-eqb (feedRefusal (c .before .before .before .before .before .before .before .before .before .before .args .session .bus) (c .before .before .before .before .before .before .before .before .before .before .args .memory .now) (c .before .before .before .before .before .before .before .before .before .before .args .ports .now) (c .before .before .before .before .before .before .before .before .before .before .args .text .now) (c .before .before .before .before .before .before .before .before .before .before .args .held)) 0 (λ e. c .before .if1 .left (c .before .before .feed-refusal .ensures ∙ e)))
-    (c .refused .ensures ∙ ap (λ n. refusedFed n (c .before .before .before .before .before .before .before .before .before .before .args .session) (c .before .before .before .before .before .before .before .before .before .before .args .held)) (c .before .before .feed-refusal .ensures), (refl, (refl, (refl, refl))))))
+    let start = c .before .before .before .before .before .before .before .before .before .before in
+    let held = start .args .held in
+    let session = start .args .session in
+    rw (ne-eqb (feedRefusal (session .bus) (start .args .memory .now) (start .args .ports .now) (start .args .text .now) held) 0 (λ e. c .before .if1 .left (c .before .before .feed-refusal .ensures ∙ e)))
+    (c .refused .ensures ∙ ap (λ n. refusedFed n session held) (c .before .before .feed-refusal .ensures), (refl, (refl, (refl, refl))))))

@@ -16,10 +16,24 @@ hold-spec =
     (λ c. search needs)
     (λ c κs. search needs)
     (λ c κs.
-    let text = c .before .before .before .before .before .args .text .now in
-    let from = c .before .before .before .before .before .args .from in
-    let filled = c .before .before .before .before .before .args .filled in
-    omega (arith, c .before .before .before .before .before .pre .0, c .before .before .before .before .before .pre .1, c .before .held-count .ensures, held-within (take (filled - from) (drop from text)), length-take (filled - from) (drop from text), length-drop from text))
+    let start = c .before .before .before .before .before in
+    let text = start .args .text .now in
+    let from = start .args .from in
+    let filled = start .args .filled in
+    omega (
+      arith,
+      start .pre .0,
+      start .pre .1,
+      c .before .held-count .ensures,
+      held-within (take (filled - from) (drop from text)),
+      length-take
+          (filled - from) (drop from text),
+      length-drop from text,
+    ))
     (λ c. search needs)
     (λ c.
-    held-home (c .before .before .before .before .before .before .before .before .args .text .now) (c .before .before .before .before .before .before .before .before .args .from) (c .before .before .before .before .before .before .before .before .args .filled) (c .before .before .before .before .held-count .result) (c .before .before .before .before .before .before .before .before .pre .0) (c .before .before .before .before .before .before .before .before .pre .1) (c .before .before .before .before .held-count .ensures) (c .before .before .bring-down .last .0) (c .before .before .bring-down .ensures)))
+    let atHeldCount = c .before .before .before .before in
+    let start = atHeldCount .before .before .before .before in
+    held-home (start .args .text .now) (start .args .from) (start .args .filled) (atHeldCount .held-count .result)
+    (start .pre .0) (start .pre .1) (atHeldCount .held-count .ensures) (c .before .before .bring-down .last .0)
+    (c .before .before .bring-down .ensures)))

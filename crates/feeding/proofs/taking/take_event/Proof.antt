@@ -20,16 +20,30 @@ take-event-spec =
     (λ c κs. search needs)
     (λ c κs. search needs)
     (λ c.
-    let bad = spoilt (c .before .before .before .before .before .before .before .before .before .before .before .before .before .args .rest .now) _ (sym (c .before .before .before .before .before .before .line2 .given .1) ∙ c .before .before .before .before .before .before .before .before .next-line .ensures) in
-    record { fits = omega (arith, bad .same, line-within (c .before .before .before .before .before .before .before .before .before .before .before .before .before .args .rest .now) (bad .has)) })
+    let start = c .before .before .before .before .before .before .before .before .before .before .before .before .before in
+    let rest = start .args .rest .now in
+    let bad = spoilt rest _ (sym (c .before .before .before .before .before .before .line2 .given .1) ∙ c .before .before .before .before .before .before .before .before .next-line .ensures)
+    in
+    record { fits = omega (arith, bad .same, line-within rest (bad .has)) })
     (λ c. search needs)
     (λ c. search needs)
     (λ c. search needs)
     (λ c. search needs)
     (λ c.
-    frame-taken (c .before .before .before .before .before .before .before .before .before .before .before .before .before .before .before .before .before .before .before .before .before .args .bus) (c .before .before .before .before .before .before .before .before .before .before .before .before .before .before .before .before .before .before .before .before .before .args .memory .now) (c .before .before .before .before .before .before .before .before .before .before .before .before .before .before .before .before .before .before .before .before .before .args .ports .now) (c .before .before .before .before .before .before .before .before .before .before .before .before .before .before .before .before .before .before .before .before .before .args .rest .now) (c .before .before .before .before .before .before .before .before .before .before .before .before .before .before .before .before .before .before .before .before .before .args .out .now) _ (sym (c .before .before .before .before .before .before .before .before .before .before .before .before .before .before .line .given .1) ∙ c .before .before .before .before .before .before .before .before .before .before .before .before .before .before .before .before .next-line .ensures) (c .before .before .before .before .before .before .before .before .before .before .before .before .before .before .before .before .before .before .before .before .before .pre .0) (c .before .before .before .before .before .before .before .before .before .before .before .before .before .before .before .before .before .before .before .before .before .pre .1 .0) (c .before .before .before .before .before .before .before .before .before .before .before .before .before .before .before .before .before .before .before .before .before .pre .1 .1) _ _ _ _
-    (c .before .before .before .before .before .before .before .before .before .before .sound-step .ensures .0) (c .before .before .before .before .before .before .before .before .before .before .sound-step .ensures .1 .0) (c .before .before .before .before .before .before .before .before .before .before .sound-step .ensures .1 .1) (c .before .before .put-answer .ensures .1))
+    let atSoundStep = c .before .before .before .before .before .before .before .before .before .before in
+    let start = atSoundStep .before .before .before .before .before .before .before .before .before .before .before in
+    frame-taken (start .args .bus) (start .args .memory .now) (start .args .ports .now) (start .args .rest .now)
+    (start .args .out .now) _ (sym (atSoundStep .before .before .before .before .line .given .1) ∙ atSoundStep .before .before .before .before .before .before .next-line .ensures)
+    (start .pre .0) (start .pre .1 .0) (start .pre .1 .1) _ _ _ _
+    (atSoundStep .sound-step .ensures .0) (atSoundStep .sound-step .ensures .1 .0) (atSoundStep .sound-step .ensures .1 .1)
+    (c .before .before .put-answer .ensures .1))
     (λ c. search needs)
     (λ c.
-    bad-taken (c .before .before .before .before .before .before .before .before .before .before .before .before .before .args .bus) (c .before .before .before .before .before .before .before .before .before .before .before .before .before .args .memory .now) (c .before .before .before .before .before .before .before .before .before .before .before .before .before .args .ports .now) (c .before .before .before .before .before .before .before .before .before .before .before .before .before .args .rest .now) (c .before .before .before .before .before .before .before .before .before .before .before .before .before .args .out .now) _ (sym (c .before .before .before .before .before .before .line2 .given .1) ∙ c .before .before .before .before .before .before .before .before .next-line .ensures) (c .before .before .before .before .before .before .before .before .before .before .before .before .before .pre .0) _ _ (c .before .before .before .before .bare .ensures) (c .before .before .put-answer2 .ensures .1))
-    (λ c. none-ended (c .before .before .before .before .before .before .before .args .bus) (c .before .before .before .before .before .before .before .args .memory .now) (c .before .before .before .before .before .before .before .args .ports .now) (c .before .before .before .before .before .before .before .args .rest .now) (c .before .before .before .before .before .before .before .args .out .now) (sym (c .enum-told .given .1) ∙ c .before .before .next-line .ensures)))
+    let start = c .before .before .before .before .before .before .before .before .before .before .before .before .before in
+    bad-taken (start .args .bus) (start .args .memory .now) (start .args .ports .now) (start .args .rest .now)
+    (start .args .out .now) _ (sym (c .before .before .before .before .before .before .line2 .given .1) ∙ c .before .before .before .before .before .before .before .before .next-line .ensures)
+    (start .pre .0) _ _ (c .before .before .before .before .bare .ensures) (c .before .before .put-answer2 .ensures .1))
+    (λ c.
+    let start = c .before .before .before .before .before .before .before in
+    none-ended (start .args .bus) (start .args .memory .now) (start .args .ports .now) (start .args .rest .now)
+    (start .args .out .now) (sym (c .enum-told .given .1) ∙ c .before .before .next-line .ensures)))

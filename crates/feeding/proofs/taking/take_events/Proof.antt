@@ -22,7 +22,10 @@ take-events-spec =
     (tie.spec
     Inv-loop
     μ-loop
-    (λ c. turning-start (c .before .before .before .before .args .text .now) (c .before .before .before .before .args .out .now) (c .before .before .before .before .args .memory .now) (c .before .before .before .before .args .ports .now) (c .before .before .before .before .args .start) (c .before .before .before .before .pre .0) (c .before .before .before .before .pre .1))
+    (λ c.
+    let start = c .before .before .before .before in
+    turning-start (start .args .text .now) (start .args .out .now) (start .args .memory .now) (start .args .ports .now)
+    (start .args .start) (start .pre .0) (start .pre .1))
     (λ c. c .loop .inv .going .room)
     (λ c. c .before .loop .inv .going .room)
     (λ c. c .before .loop .inv .going .room)
@@ -30,18 +33,74 @@ take-events-spec =
     (λ c κs.
     let at = c .before .before .before .before .loop in
     (omega (arith, c .before .before .before .loop-test, ap length (part-behind (at .out) (at .written)), length-drop (at .written) (at .out)), (at .inv .fit, at .inv .sense)))
-    (λ c. size-within (c .before .before .before .before .before .before .before .before .before .before .before .before .before .before .before .before .before .before .args .text .now) (c .before .before .before .before .before .before .before .before .before .before .before .before .before .before .before .before .before .before .args .out .now) (c .before .before .before .before .before .before .before .before .before .before .before .before .before .before .before .before .before .before .args .memory .now) (c .before .before .before .before .before .before .before .before .before .before .before .before .before .before .before .before .before .before .args .ports .now) (c .before .before .before .before .before .before .before .before .before .before .before .before .before .before .before .before .before .before .args .start) (c .before .before .before .before .before .before .before .before .before .before .before .before .before .loop .out) (c .before .before .before .before .before .before .before .before .before .before .before .before .before .loop .memory) (c .before .before .before .before .before .before .before .before .before .before .before .before .before .loop .ports) (c .before .before .before .before .before .before .before .before .before .before .before .before .before .loop .bus) (c .before .before .before .before .before .before .before .before .before .before .before .before .before .loop .rest .now) (c .before .before .before .before .before .before .before .before .before .before .before .before .before .loop .used) (c .before .before .before .before .before .before .before .before .before .before .before .before .before .loop .written) (c .before .before .before .before .before .before .before .before .before .before .before .before .before .loop .inv) (c .before .before .before .before .before .before .before .before .take-event .result) (c .before .before .before .before .before .before .before .before .take-event .last .1 .1 .0) (c .before .before .before .before .before .before .before .before .take-event .last .1 .1 .1 .0) (c .before .before .before .before .before .before .before .before .take-event .last .1 .1 .1 .1 .0) (record { line-is = c .before .before .before .before .before .before .before .before .take-event .ensures .0; part-is = c .before .before .before .before .before .before .before .before .take-event .ensures .1 .0; memory-is = c .before .before .before .before .before .before .before .before .take-event .ensures .1 .1 .0; ports-is = c .before .before .before .before .before .before .before .before .take-event .ensures .1 .1 .1; memory-long = c .before .before .before .before .before .before .before .before .take-event .kept .1 .1 .1 .0; ports-long = c .before .before .before .before .before .before .before .before .take-event .kept .1 .1 .1 .1 .0 }))
-    (λ c. size-within (c .before .before .before .before .before .before .before .before .before .before .before .before .before .before .before .before .before .before .args .text .now) (c .before .before .before .before .before .before .before .before .before .before .before .before .before .before .before .before .before .before .args .out .now) (c .before .before .before .before .before .before .before .before .before .before .before .before .before .before .before .before .before .before .args .memory .now) (c .before .before .before .before .before .before .before .before .before .before .before .before .before .before .before .before .before .before .args .ports .now) (c .before .before .before .before .before .before .before .before .before .before .before .before .before .before .before .before .before .before .args .start) (c .before .before .before .before .before .before .before .before .before .before .before .before .before .loop .out) (c .before .before .before .before .before .before .before .before .before .before .before .before .before .loop .memory) (c .before .before .before .before .before .before .before .before .before .before .before .before .before .loop .ports) (c .before .before .before .before .before .before .before .before .before .before .before .before .before .loop .bus) (c .before .before .before .before .before .before .before .before .before .before .before .before .before .loop .rest .now) (c .before .before .before .before .before .before .before .before .before .before .before .before .before .loop .used) (c .before .before .before .before .before .before .before .before .before .before .before .before .before .loop .written) (c .before .before .before .before .before .before .before .before .before .before .before .before .before .loop .inv) (c .before .before .before .before .before .before .before .before .take-event .result) (c .before .before .before .before .before .before .before .before .take-event .last .1 .1 .0) (c .before .before .before .before .before .before .before .before .take-event .last .1 .1 .1 .0) (c .before .before .before .before .before .before .before .before .take-event .last .1 .1 .1 .1 .0) (record { line-is = c .before .before .before .before .before .before .before .before .take-event .ensures .0; part-is = c .before .before .before .before .before .before .before .before .take-event .ensures .1 .0; memory-is = c .before .before .before .before .before .before .before .before .take-event .ensures .1 .1 .0; ports-is = c .before .before .before .before .before .before .before .before .take-event .ensures .1 .1 .1; memory-long = c .before .before .before .before .before .before .before .before .take-event .kept .1 .1 .1 .0; ports-long = c .before .before .before .before .before .before .before .before .take-event .kept .1 .1 .1 .1 .0 }))
+    (λ c.
+    let atTakeEvent = c .before .before .before .before .before .before .before .before in
+    let atLoop = atTakeEvent .before .before .before .before .before in
+    let start = atLoop .before .before .before .before .before in
+    size-within (start .args .text .now) (start .args .out .now) (start .args .memory .now) (start .args .ports .now)
+    (start .args .start) (atLoop .loop .out) (atLoop .loop .memory) (atLoop .loop .ports) (atLoop .loop .bus)
+    (atLoop .loop .rest .now) (atLoop .loop .used) (atLoop .loop .written) (atLoop .loop .inv) (atTakeEvent .take-event .result)
+    (atTakeEvent .take-event .last .1 .1 .0) (atTakeEvent .take-event .last .1 .1 .1 .0) (atTakeEvent .take-event .last .1 .1 .1 .1 .0)
+    (record { line-is = atTakeEvent .take-event .ensures .0; part-is = atTakeEvent .take-event .ensures .1 .0; memory-is = atTakeEvent .take-event .ensures .1 .1 .0; ports-is = atTakeEvent .take-event .ensures .1 .1 .1; memory-long = atTakeEvent .take-event .kept .1 .1 .1 .0; ports-long = atTakeEvent .take-event .kept .1 .1 .1 .1 .0 }))
+    (λ c.
+    let atTakeEvent = c .before .before .before .before .before .before .before .before in
+    let atLoop = atTakeEvent .before .before .before .before .before in
+    let start = atLoop .before .before .before .before .before in
+    size-within (start .args .text .now) (start .args .out .now) (start .args .memory .now) (start .args .ports .now)
+    (start .args .start) (atLoop .loop .out) (atLoop .loop .memory) (atLoop .loop .ports) (atLoop .loop .bus)
+    (atLoop .loop .rest .now) (atLoop .loop .used) (atLoop .loop .written) (atLoop .loop .inv) (atTakeEvent .take-event .result)
+    (atTakeEvent .take-event .last .1 .1 .0) (atTakeEvent .take-event .last .1 .1 .1 .0) (atTakeEvent .take-event .last .1 .1 .1 .1 .0)
+    (record { line-is = atTakeEvent .take-event .ensures .0; part-is = atTakeEvent .take-event .ensures .1 .0; memory-is = atTakeEvent .take-event .ensures .1 .1 .0; ports-is = atTakeEvent .take-event .ensures .1 .1 .1; memory-long = atTakeEvent .take-event .kept .1 .1 .1 .0; ports-long = atTakeEvent .take-event .kept .1 .1 .1 .1 .0 }))
     (λ c. search needs)
-    (λ c. record { fits = omega (arith, size-within (c .before .before .before .before .before .before .before .before .before .before .before .before .before .before .before .before .before .before .before .args .text .now) (c .before .before .before .before .before .before .before .before .before .before .before .before .before .before .before .before .before .before .before .args .out .now) (c .before .before .before .before .before .before .before .before .before .before .before .before .before .before .before .before .before .before .before .args .memory .now) (c .before .before .before .before .before .before .before .before .before .before .before .before .before .before .before .before .before .before .before .args .ports .now) (c .before .before .before .before .before .before .before .before .before .before .before .before .before .before .before .before .before .before .before .args .start) (c .before .before .before .before .before .before .before .before .before .before .before .before .before .before .loop .out) (c .before .before .before .before .before .before .before .before .before .before .before .before .before .before .loop .memory) (c .before .before .before .before .before .before .before .before .before .before .before .before .before .before .loop .ports) (c .before .before .before .before .before .before .before .before .before .before .before .before .before .before .loop .bus) (c .before .before .before .before .before .before .before .before .before .before .before .before .before .before .loop .rest .now) (c .before .before .before .before .before .before .before .before .before .before .before .before .before .before .loop .used) (c .before .before .before .before .before .before .before .before .before .before .before .before .before .before .loop .written) (c .before .before .before .before .before .before .before .before .before .before .before .before .before .before .loop .inv) (c .before .before .before .before .before .before .before .before .before .take-event .result) (c .before .before .before .before .before .before .before .before .before .take-event .last .1 .1 .0) (c .before .before .before .before .before .before .before .before .before .take-event .last .1 .1 .1 .0) (c .before .before .before .before .before .before .before .before .before .take-event .last .1 .1 .1 .1 .0) (record { line-is = c .before .before .before .before .before .before .before .before .before .take-event .ensures .0; part-is = c .before .before .before .before .before .before .before .before .before .take-event .ensures .1 .0; memory-is = c .before .before .before .before .before .before .before .before .before .take-event .ensures .1 .1 .0; ports-is = c .before .before .before .before .before .before .before .before .before .take-event .ensures .1 .1 .1; memory-long = c .before .before .before .before .before .before .before .before .before .take-event .kept .1 .1 .1 .0; ports-long = c .before .before .before .before .before .before .before .before .before .take-event .kept .1 .1 .1 .1 .0 }), c .before .before .before .before .before .before .before .before .before .before .before .before .before .before .loop .inv .within) })
+    (λ c.
+    let atTakeEvent = c .before .before .before .before .before .before .before .before .before in
+    let atLoop = atTakeEvent .before .before .before .before .before in
+    let start = atLoop .before .before .before .before .before in
+    record { fits = omega (arith, size-within (start .args .text .now) (start .args .out .now) (start .args .memory .now) (start .args .ports .now) (start .args .start) (atLoop .loop .out) (atLoop .loop .memory) (atLoop .loop .ports) (atLoop .loop .bus) (atLoop .loop .rest .now) (atLoop .loop .used) (atLoop .loop .written) (atLoop .loop .inv) (atTakeEvent .take-event .result) (atTakeEvent .take-event .last .1 .1 .0) (atTakeEvent .take-event .last .1 .1 .1 .0) (atTakeEvent .take-event .last .1 .1 .1 .1 .0) (record { line-is = atTakeEvent .take-event .ensures .0; part-is = atTakeEvent .take-event .ensures .1 .0; memory-is = atTakeEvent .take-event .ensures .1 .1 .0; ports-is = atTakeEvent .take-event .ensures .1 .1 .1; memory-long = atTakeEvent .take-event .kept .1 .1 .1 .0; ports-long = atTakeEvent .take-event .kept .1 .1 .1 .1 .0 }), atLoop .loop .inv .within) })
     (λ c. record { fits = omega (arith, c .before .before .before .before .before .before .before .before .before .before .before .before .before .loop-test) })
-    (λ c. rest-less (c .before .before .before .before .before .before .before .before .before .before .before .before .before .before .before .before .before .before .before .args .text .now) (c .before .before .before .before .before .before .before .before .before .before .before .before .before .before .before .before .before .before .before .args .out .now) (c .before .before .before .before .before .before .before .before .before .before .before .before .before .before .before .before .before .before .before .args .memory .now) (c .before .before .before .before .before .before .before .before .before .before .before .before .before .before .before .before .before .before .before .args .ports .now) (c .before .before .before .before .before .before .before .before .before .before .before .before .before .before .before .before .before .before .before .args .start) (c .before .before .before .before .before .before .before .before .before .before .before .before .before .before .loop .out) (c .before .before .before .before .before .before .before .before .before .before .before .before .before .before .loop .memory) (c .before .before .before .before .before .before .before .before .before .before .before .before .before .before .loop .ports) (c .before .before .before .before .before .before .before .before .before .before .before .before .before .before .loop .bus) (c .before .before .before .before .before .before .before .before .before .before .before .before .before .before .loop .rest .now) (c .before .before .before .before .before .before .before .before .before .before .before .before .before .before .loop .used) (c .before .before .before .before .before .before .before .before .before .before .before .before .before .before .loop .written) (c .before .before .before .before .before .before .before .before .before .before .before .before .before .before .loop .inv) (c .before .before .before .before .before .before .before .before .before .take-event .result) (c .before .before .before .before .before .before .before .before .before .take-event .last .1 .1 .0) (c .before .before .before .before .before .before .before .before .before .take-event .last .1 .1 .1 .0) (c .before .before .before .before .before .before .before .before .before .take-event .last .1 .1 .1 .1 .0) (record { line-is = c .before .before .before .before .before .before .before .before .before .take-event .ensures .0; part-is = c .before .before .before .before .before .before .before .before .before .take-event .ensures .1 .0; memory-is = c .before .before .before .before .before .before .before .before .before .take-event .ensures .1 .1 .0; ports-is = c .before .before .before .before .before .before .before .before .before .take-event .ensures .1 .1 .1; memory-long = c .before .before .before .before .before .before .before .before .before .take-event .kept .1 .1 .1 .0; ports-long = c .before .before .before .before .before .before .before .before .before .take-event .kept .1 .1 .1 .1 .0 }) (c .before .before .if1 .left))
-    (λ c. turning-next (c .before .before .before .before .before .before .before .before .before .before .before .before .before .before .before .before .before .before .before .args .text .now) (c .before .before .before .before .before .before .before .before .before .before .before .before .before .before .before .before .before .before .before .args .out .now) (c .before .before .before .before .before .before .before .before .before .before .before .before .before .before .before .before .before .before .before .args .memory .now) (c .before .before .before .before .before .before .before .before .before .before .before .before .before .before .before .before .before .before .before .args .ports .now) (c .before .before .before .before .before .before .before .before .before .before .before .before .before .before .before .before .before .before .before .args .start) (c .before .before .before .before .before .before .before .before .before .before .before .before .before .before .loop .out) (c .before .before .before .before .before .before .before .before .before .before .before .before .before .before .loop .memory) (c .before .before .before .before .before .before .before .before .before .before .before .before .before .before .loop .ports) (c .before .before .before .before .before .before .before .before .before .before .before .before .before .before .loop .bus) (c .before .before .before .before .before .before .before .before .before .before .before .before .before .before .loop .rest .now) (c .before .before .before .before .before .before .before .before .before .before .before .before .before .before .loop .used) (c .before .before .before .before .before .before .before .before .before .before .before .before .before .before .loop .written) (c .before .before .before .before .before .before .before .before .before .before .before .before .before .before .loop .inv) (c .before .before .before .before .before .before .before .before .before .take-event .result) (c .before .before .before .before .before .before .before .before .before .take-event .last .1 .1 .0) (c .before .before .before .before .before .before .before .before .before .take-event .last .1 .1 .1 .0) (c .before .before .before .before .before .before .before .before .before .take-event .last .1 .1 .1 .1 .0) (record { line-is = c .before .before .before .before .before .before .before .before .before .take-event .ensures .0; part-is = c .before .before .before .before .before .before .before .before .before .take-event .ensures .1 .0; memory-is = c .before .before .before .before .before .before .before .before .before .take-event .ensures .1 .1 .0; ports-is = c .before .before .before .before .before .before .before .before .before .take-event .ensures .1 .1 .1; memory-long = c .before .before .before .before .before .before .before .before .before .take-event .kept .1 .1 .1 .0; ports-long = c .before .before .before .before .before .before .before .before .before .take-event .kept .1 .1 .1 .1 .0 }) (omega (arith, c .before .before .before .before .before .before .before .before .before .before .before .before .before .loop-test)) (c .before .before .if1 .left))
+    (λ c.
+    let atTakeEvent = c .before .before .before .before .before .before .before .before .before in
+    let atLoop = atTakeEvent .before .before .before .before .before in
+    let start = atLoop .before .before .before .before .before in
+    rest-less (start .args .text .now) (start .args .out .now) (start .args .memory .now) (start .args .ports .now)
+    (start .args .start) (atLoop .loop .out) (atLoop .loop .memory) (atLoop .loop .ports) (atLoop .loop .bus)
+    (atLoop .loop .rest .now) (atLoop .loop .used) (atLoop .loop .written) (atLoop .loop .inv) (atTakeEvent .take-event .result)
+    (atTakeEvent .take-event .last .1 .1 .0) (atTakeEvent .take-event .last .1 .1 .1 .0) (atTakeEvent .take-event .last .1 .1 .1 .1 .0)
+    (record { line-is = atTakeEvent .take-event .ensures .0; part-is = atTakeEvent .take-event .ensures .1 .0; memory-is = atTakeEvent .take-event .ensures .1 .1 .0; ports-is = atTakeEvent .take-event .ensures .1 .1 .1; memory-long = atTakeEvent .take-event .kept .1 .1 .1 .0; ports-long = atTakeEvent .take-event .kept .1 .1 .1 .1 .0 })
+    (c .before .before .if1 .left))
+    (λ c.
+    let atTakeEvent = c .before .before .before .before .before .before .before .before .before in
+    let atLoop = atTakeEvent .before .before .before .before .before in
+    let start = atLoop .before .before .before .before .before in
+    turning-next (start .args .text .now) (start .args .out .now) (start .args .memory .now) (start .args .ports .now)
+    (start .args .start) (atLoop .loop .out) (atLoop .loop .memory) (atLoop .loop .ports) (atLoop .loop .bus)
+    (atLoop .loop .rest .now) (atLoop .loop .used) (atLoop .loop .written) (atLoop .loop .inv) (atTakeEvent .take-event .result)
+    (atTakeEvent .take-event .last .1 .1 .0) (atTakeEvent .take-event .last .1 .1 .1 .0) (atTakeEvent .take-event .last .1 .1 .1 .1 .0)
+    (record { line-is = atTakeEvent .take-event .ensures .0; part-is = atTakeEvent .take-event .ensures .1 .0; memory-is = atTakeEvent .take-event .ensures .1 .1 .0; ports-is = atTakeEvent .take-event .ensures .1 .1 .1; memory-long = atTakeEvent .take-event .kept .1 .1 .1 .0; ports-long = atTakeEvent .take-event .kept .1 .1 .1 .1 .0 })
+    (omega (arith, atTakeEvent .before .before .before .before .loop-test)) (c .before .before .if1 .left))
     (λ c. c .before .loop .inv .going .long)
     (λ c. c .before .loop .inv .memory)
     (λ c. c .before .loop .inv .ports)
-    (λ c. returned-full (c .before .before .before .before .before .before .args .text .now) (c .before .before .before .before .before .before .args .out .now) (c .before .before .before .before .before .before .args .memory .now) (c .before .before .before .before .before .before .args .ports .now) (c .before .before .before .before .before .before .args .start) (c .before .loop .out) (c .before .loop .memory) (c .before .loop .ports) (c .before .loop .bus) (c .before .loop .rest .now) (c .before .loop .used) (c .before .loop .written) (c .before .loop .inv) (omega (arith, c .loop-test)))
-    (λ c. same-len-mid (c .before .before .before .before .before .before .before .before .before .before .before .before .loop .written) (length (c .before .before .before .before .before .before .before .before .before .before .before .before .loop .out) - c .before .before .before .before .before .before .before .before .before .before .before .before .loop .written) (c .before .before .before .before .before .before .before .before .before .before .before .before .loop .out) (c .before .before .before .before .before .before .before .take-event .last .1 .1 .0) (c .before .before .before .before .before .before .before .take-event .kept .1 .1 .0) ∙ c .before .before .before .before .before .before .before .before .before .before .before .before .loop .inv .going .long)
+    (λ c.
+    let start = c .before .before .before .before .before .before in
+    returned-full (start .args .text .now) (start .args .out .now) (start .args .memory .now) (start .args .ports .now)
+    (start .args .start) (c .before .loop .out) (c .before .loop .memory) (c .before .loop .ports) (c .before .loop .bus)
+    (c .before .loop .rest .now) (c .before .loop .used) (c .before .loop .written) (c .before .loop .inv)
+    (omega (arith, c .loop-test)))
+    (λ c.
+    let atTakeEvent = c .before .before .before .before .before .before .before in
+    let atLoop = atTakeEvent .before .before .before .before .before in
+    same-len-mid (atLoop .loop .written) (length (atLoop .loop .out) - atLoop .loop .written) (atLoop .loop .out)
+    (atTakeEvent .take-event .last .1 .1 .0) (atTakeEvent .take-event .kept .1 .1 .0) ∙ atLoop .loop .inv .going .long)
     (λ c. c .before .before .before .before .before .before .before .take-event .kept .1 .1 .1 .0 ∙ c .before .before .before .before .before .before .before .before .before .before .before .before .loop .inv .memory)
     (λ c. c .before .before .before .before .before .before .before .take-event .kept .1 .1 .1 .1 .0 ∙ c .before .before .before .before .before .before .before .before .before .before .before .before .loop .inv .ports)
-    (λ c. turning-none (c .before .before .before .before .before .before .before .before .before .before .before .before .before .before .before .before .before .args .text .now) (c .before .before .before .before .before .before .before .before .before .before .before .before .before .before .before .before .before .args .out .now) (c .before .before .before .before .before .before .before .before .before .before .before .before .before .before .before .before .before .args .memory .now) (c .before .before .before .before .before .before .before .before .before .before .before .before .before .before .before .before .before .args .ports .now) (c .before .before .before .before .before .before .before .before .before .before .before .before .before .before .before .before .before .args .start) (c .before .before .before .before .before .before .before .before .before .before .before .before .loop .out) (c .before .before .before .before .before .before .before .before .before .before .before .before .loop .memory) (c .before .before .before .before .before .before .before .before .before .before .before .before .loop .ports) (c .before .before .before .before .before .before .before .before .before .before .before .before .loop .bus) (c .before .before .before .before .before .before .before .before .before .before .before .before .loop .rest .now) (c .before .before .before .before .before .before .before .before .before .before .before .before .loop .used) (c .before .before .before .before .before .before .before .before .before .before .before .before .loop .written) (c .before .before .before .before .before .before .before .before .before .before .before .before .loop .inv) (c .before .before .before .before .before .before .before .take-event .result) (c .before .before .before .before .before .before .before .take-event .last .1 .1 .0) (c .before .before .before .before .before .before .before .take-event .last .1 .1 .1 .0) (c .before .before .before .before .before .before .before .take-event .last .1 .1 .1 .1 .0) (record { line-is = c .before .before .before .before .before .before .before .take-event .ensures .0; part-is = c .before .before .before .before .before .before .before .take-event .ensures .1 .0; memory-is = c .before .before .before .before .before .before .before .take-event .ensures .1 .1 .0; ports-is = c .before .before .before .before .before .before .before .take-event .ensures .1 .1 .1; memory-long = c .before .before .before .before .before .before .before .take-event .kept .1 .1 .1 .0; ports-long = c .before .before .before .before .before .before .before .take-event .kept .1 .1 .1 .1 .0 }) (c .if1 .taken)))
+    (λ c.
+    let atTakeEvent = c .before .before .before .before .before .before .before in
+    let atLoop = atTakeEvent .before .before .before .before .before in
+    let start = atLoop .before .before .before .before .before in
+    turning-none (start .args .text .now) (start .args .out .now) (start .args .memory .now) (start .args .ports .now)
+    (start .args .start) (atLoop .loop .out) (atLoop .loop .memory) (atLoop .loop .ports) (atLoop .loop .bus)
+    (atLoop .loop .rest .now) (atLoop .loop .used) (atLoop .loop .written) (atLoop .loop .inv) (atTakeEvent .take-event .result)
+    (atTakeEvent .take-event .last .1 .1 .0) (atTakeEvent .take-event .last .1 .1 .1 .0) (atTakeEvent .take-event .last .1 .1 .1 .1 .0)
+    (record { line-is = atTakeEvent .take-event .ensures .0; part-is = atTakeEvent .take-event .ensures .1 .0; memory-is = atTakeEvent .take-event .ensures .1 .1 .0; ports-is = atTakeEvent .take-event .ensures .1 .1 .1; memory-long = atTakeEvent .take-event .kept .1 .1 .1 .0; ports-long = atTakeEvent .take-event .kept .1 .1 .1 .1 .0 })
+    (c .if1 .taken)))

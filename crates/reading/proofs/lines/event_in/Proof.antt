@@ -20,5 +20,13 @@ event-in-spec =
     (λ c. search needs)
     (λ c κs. search needs)
     (λ c.
-    let address = six-digits 4 (c .before .before .before .before .before .before .args .line .now) (omega (arith, c .before .before .before .before .before .before .pre .0)) in
-    rw (c .before .before .before .before .two .ensures, c .before .before .before .two2 .ensures, c .before .before .two3 .ensures, c .before .four .ensures, c .four2 .ensures, address) refl))
+    let start = c .before .before .before .before .before .before in
+    let address = six-digits 4 (start .args .line .now) (omega (arith, start .pre .0)) in
+    rw (
+      c .before .before .before .before .two .ensures,
+      c .before .before .before .two2 .ensures,
+      c .before .before .two3 .ensures,
+      c .before .four .ensures,
+      c .four2 .ensures,
+      address,
+    ) refl))

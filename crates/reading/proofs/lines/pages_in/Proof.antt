@@ -33,7 +33,8 @@ pages-in-spec =
     (λ c. omega arith)
     (λ c. omega arith)
     (λ c.
-    let line = c .before .before .before .before .before .args .line .now in
+    let start = c .before .before .before .before .before in
+    let line = start .args .line .now in
     let pages = c .before .before .before .loop .pages in
     let i = c .before .before .before .loop .i in
     let inv = c .before .before .before .loop .inv .1 in
@@ -41,7 +42,7 @@ pages-in-spec =
       omega arith,
       (
         length-set pages i (c .value .result) ∙ inv .0,
-        rw (one, c .value .ensures) (page-next line pages i (omega arith) (inv .0) (c .before .before .before .before .before .pre .0) (inv .1)),
+        rw (one, c .value .ensures) (page-next line pages i (omega arith) (inv .0) (start .pre .0) (inv .1)),
       ),
     ))
     (λ c.

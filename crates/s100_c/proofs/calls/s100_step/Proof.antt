@@ -30,12 +30,15 @@ s100-step-spec =
     (λ c. search needs)
     (λ c. search needs)
     (λ c.
-    let a = c .before .before .before .before .before .before .before .before .before .before .before .before .before .before .before .before .before .before .before .args in
+    let atIf1 = c .before .before .before .before .before .before .before .before .before .before .before .before .before .before in
+    let a = atIf1 .before .before .before .before .before .args in
     let given = lent (a .state .now) (a .memory .now) (a .ports .now) (a .answer .now) in
     let event = eventOf (a .kind) (a .speaker) (a .address) (a .datum) in
-    let taken = c .before .before .before .before .before .before .before .before .take-step .ensures in (
-      placed-answers given event (c .before .before .before .before .before .before .before .before .before .before .before .before .before .before .if1 .taken) (taken .0),
-      fitting-leaves given event (all-fit given (c .before .before .before .before .before .before .before .before .before .before .before .before .before .before .if1 .taken) (ap not (c .before .before .before .before .before .before .before .before .before .before .before .before .before .if2 .taken))) (taken .1),
+    let taken = c .before .before .before .before .before .before .before .before .take-step .ensures
+    in (
+      placed-answers given event (atIf1 .if1 .taken) (taken .0),
+      fitting-leaves given event (all-fit given (atIf1 .if1 .taken) (ap not (c .before .before .before .before .before .before .before .before .before .before .before .before .before .if2 .taken)))
+          (taken .1),
     ))
     (λ c.
     let a = c .before .before .before .before .before .before .args in

@@ -18,11 +18,14 @@ take-step-spec =
     (λ c. search needs)
     (λ c. search needs)
     (λ c.
-    let given = c .before .before .before .before .before .before .before .before .before .before .before .before .before .before .before .before .before .before .before .before .before .before .before .args in
-    step-written (lent (given .state .now) (given .memory .now) (given .ports .now) (given .answer .now)) (given .event) (c .before .before .before .before .before .before .before .before .before .before .before .before .before .before .before .before .before .bus-in .result) (c .before .before .before .before .before .before .before .before .before .before .before .before .before .before .step .result) _ _ _ _
-    (c .before .before .before .before .before .before .before .before .before .before .before .before .before .before .before .before .before .bus-in .ensures)
-    (c .before .before .before .before .before .before .before .before .before .before .before .before .before .before .step .ensures .0)
+    let atStep = c .before .before .before .before .before .before .before .before .before .before .before .before .before .before in
+    let atBusIn = atStep .before .before .before in
+    let given = atBusIn .before .before .before .before .before .before .args in
+    step-written (lent (given .state .now) (given .memory .now) (given .ports .now) (given .answer .now))
+    (given .event) (atBusIn .bus-in .result) (atStep .step .result) _ _ _ _
+    (atBusIn .bus-in .ensures)
+    (atStep .step .ensures .0)
     (c .before .before .before .before .before .before .put-bus .ensures)
-    (c .before .before .before .before .before .before .before .before .before .before .before .before .before .before .step .ensures .1 .0)
-    (c .before .before .before .before .before .before .before .before .before .before .before .before .before .before .step .ensures .1 .1)
+    (atStep .step .ensures .1 .0)
+    (atStep .step .ensures .1 .1)
     (c .before .before .put-answer .ensures)))

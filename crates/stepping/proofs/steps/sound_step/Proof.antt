@@ -17,8 +17,14 @@ sound-step-spec =
     (λ c. search needs)
     (λ c. search needs)
     (λ c.
+    let start = c .before .before .before .before .before .before .before .before .before .before .before .before in
     let left = c .before .before .before .before in
     let judged = left .before .before .before in
-    sound-taken (machine (c .before .before .before .before .before .before .before .before .before .before .before .before .args .bus) (now (c .before .before .before .before .before .before .before .before .before .before .before .before .args .memory)) (now (c .before .before .before .before .before .before .before .before .before .before .before .before .args .ports))) (c .before .before .before .before .before .before .before .before .before .before .before .before .args .event) _ _ (judged .before .before .judge .ensures) (judged .before .number-of .ensures) (judged .if1 .taken) _ _ _ (left .accepted .ensures .0) (left .accepted .ensures .1 .0) (left .accepted .ensures .1 .1))
+    sound-taken (machine (start .args .bus) (now (start .args .memory)) (now (start .args .ports))) (start .args .event)
+    _ _ (judged .before .before .judge .ensures) (judged .before .number-of .ensures) (judged .if1 .taken)
+    _ _ _ (left .accepted .ensures .0) (left .accepted .ensures .1 .0) (left .accepted .ensures .1 .1))
     (λ c.
-    sound-refused (machine (c .before .before .before .before .before .before .args .bus) (now (c .before .before .before .before .before .before .args .memory)) (now (c .before .before .before .before .before .before .args .ports))) (c .before .before .before .before .before .before .args .event) _ _ (c .before .before .before .judge .ensures) (c .before .before .number-of .ensures) (c .before .if1 .left) _ (c .refused .ensures)))
+    let start = c .before .before .before .before .before .before in
+    sound-refused (machine (start .args .bus) (now (start .args .memory)) (now (start .args .ports))) (start .args .event)
+    _ _ (c .before .before .before .judge .ensures) (c .before .before .number-of .ensures) (c .before .if1 .left)
+    _ (c .refused .ensures)))

@@ -22,8 +22,9 @@ look-spec =
     looks-below (c .before .before .before .before .args .t1) (c .before .before .before .before .args .card)
     (sym (c .before .before .before .may-look .ensures) ∙ c .before .before .if1 .taken))
     (λ c.
-    let bus = c .before .before .before .before .args .t1 in
-    let card = c .before .before .before .before .args .card in
+    let start = c .before .before .before .before in
+    let bus = start .args .t1 in
+    let card = start .args .card in
     rw (sym (c .before .before .before .may-look .ensures) ∙ c .before .before .if1 .taken)
     (ap (λ (level : ℕ). changed bus (bus .phase) (bus .contenders) (set (bus .driven) card level) (bus .granted))
     (c .look-at .ensures ∙ ap (look 4 card) (c .before .lines .ensures))))
