@@ -48,13 +48,8 @@ allCard = card ∷ card ∷ card ∷ card ∷ []
 unfoldable pub driversIn : ℕ → List ℕ
 driversIn phase =
     beside phase (
-    (Phase.free, allPermanent)
-    ∷ (Phase.arbitration, allPermanent)
-    ∷ (Phase.granted, allPermanent)
-    ∷ (Phase.transferOne, changingHands)
-    ∷ (Phase.owned, allCard)
-    ∷ (Phase.transferTwo, changingHands)
-    ∷ []
+    (Phase.free, allPermanent) ∷ (Phase.arbitration, allPermanent) ∷ (Phase.granted, allPermanent)
+    ∷ (Phase.transferOne, changingHands) ∷ (Phase.owned, allCard) ∷ (Phase.transferTwo, changingHands) ∷ []
     ) []
 
 -- and nobody a group that there is not

@@ -48,11 +48,6 @@ disabling = ADSB + SDSB + DODSB
 unfoldable pub signalsIn : ℕ → ℕ
 signalsIn phase =
     beside phase (
-    (Phase.free, 0)
-    ∷ (Phase.arbitration, HOLD)
-    ∷ (Phase.granted, HOLD + pHLDA)
-    ∷ (Phase.transferOne, HOLD + pHLDA + disabling)
-    ∷ (Phase.owned, HOLD + pHLDA + disabling + CDSB)
-    ∷ (Phase.transferTwo, pHLDA + disabling)
-    ∷ []
+    (Phase.free, 0) ∷ (Phase.arbitration, HOLD) ∷ (Phase.granted, HOLD + pHLDA) ∷ (Phase.transferOne, HOLD + pHLDA + disabling)
+    ∷ (Phase.owned, HOLD + pHLDA + disabling + CDSB) ∷ (Phase.transferTwo, pHLDA + disabling) ∷ []
     ) 0

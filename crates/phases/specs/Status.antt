@@ -25,12 +25,6 @@ sWO = 0x10
 unfoldable pub statusOf : ℕ → ℕ
 statusOf kind =
     beside kind (
-    (Kind.byteRead, sMEMR)
-    ∷ (Kind.opcodeFetch, sMEMR + sM1)
-    ∷ (Kind.byteWrite, sWO)
-    ∷ (Kind.wordRead, sMEMR)
-    ∷ (Kind.wordWrite, sWO)
-    ∷ (Kind.input, sINP)
-    ∷ (Kind.output, sOUT + sWO)
-    ∷ []
+    (Kind.byteRead, sMEMR) ∷ (Kind.wordRead, sMEMR) ∷ (Kind.opcodeFetch, sMEMR + sM1) ∷ (Kind.byteWrite, sWO) ∷ (Kind.wordWrite, sWO)
+    ∷ (Kind.input, sINP) ∷ (Kind.output, sOUT + sWO) ∷ []
     ) 0
