@@ -7,10 +7,10 @@ use Rattle.lines.specs.Look.{look}
 use Rattle.lines.specs.Arbitration.{everyContender, shown, looked, settled, afterLook}
 use Rattle.phases.specs.Signal.{signalsIn}
 use Rattle.cards.specs.Cards.{someCard, isWithin}
-use Rattle.bus.specs.Sense.{drivingFits, makesSense}
+use Rattle.bus.specs.Sense.{drivingFits, standingFits, makesSense}
 use Rattle.bus.specs.Steps.{afterLooksOf}
 use Rattle.bus.specs.Settle.{settledAfter, leadingLooks, neverSettles, settleRefusal, settleOf}
-use Rattle.bus.specs.Examples.{RoundsOnTheBus, SettleOnTheBus, SettleRefusals, PrintedRun, ZeroAndOwnBits, OutOfTurn, Numbers, SenseCases}
+use Rattle.bus.specs.Examples.{RoundsOnTheBus, SettleOnTheBus, SettleRefusals, PrintedRun, ZeroAndOwnBits, OutOfTurn, OtherPages, Numbers, SenseCases}
 
 pub rounds-on-the-bus : RoundsOnTheBus
 unfolding allBelow orBelow look everyContender shown looked settled afterLook someCard isWithin afterLooksOf
@@ -25,7 +25,8 @@ rounds-on-the-bus = record {
 }
 
 pub settle-on-the-bus : SettleOnTheBus
-unfolding allBelow orBelow look everyContender shown looked settled afterLook someCard isWithin afterLooksOf firstOf leastBelow everyListed drivingFits makesSense settledAfter leadingLooks neverSettles settleRefusal settleOf
+unfolding allBelow orBelow look everyContender shown looked settled afterLook someCard isWithin
+    afterLooksOf firstOf leastBelow everyListed drivingFits standingFits makesSense settledAfter leadingLooks neverSettles settleRefusal settleOf
 settle-on-the-bus = record {
   twelve = refl;
   twelveAccepted = refl;
@@ -38,7 +39,8 @@ settle-on-the-bus = record {
 }
 
 pub settle-refusals : SettleRefusals
-unfolding allBelow orBelow look everyContender shown looked settled afterLook someCard isWithin afterLooksOf firstOf leastBelow everyListed drivingFits makesSense settledAfter leadingLooks neverSettles settleRefusal settleOf
+unfolding allBelow orBelow look everyContender shown looked settled afterLook someCard isWithin
+    afterLooksOf firstOf leastBelow everyListed drivingFits standingFits makesSense settledAfter leadingLooks neverSettles settleRefusal settleOf
 settle-refusals = record {
   senseless = refl;
   malformed = refl;
@@ -49,7 +51,8 @@ settle-refusals = record {
 }
 
 pub printed-run : PrintedRun
-unfolding beside signalsIn allBelow orBelow look everyContender shown looked settled afterLook someCard isWithin afterLooksOf everyListed drivingFits makesSense
+unfolding beside signalsIn allBelow orBelow look everyContender shown looked settled afterLook someCard isWithin
+    afterLooksOf everyListed drivingFits standingFits makesSense
 printed-run = record { atFirst = refl; asPrinted = refl; back = refl }
 
 pub zero-and-own-bits : ZeroAndOwnBits
@@ -63,7 +66,7 @@ zero-and-own-bits = record {
 }
 
 pub out-of-turn : OutOfTurn
-unfolding allBelow orBelow look everyContender shown looked settled afterLook someCard isWithin afterLooksOf everyListed drivingFits makesSense
+unfolding allBelow orBelow look everyContender shown looked settled afterLook someCard isWithin afterLooksOf everyListed drivingFits standingFits makesSense
 out-of-turn = record {
   requestNobody = refl;
   requestUnfitted = refl;
@@ -75,20 +78,24 @@ out-of-turn = record {
   tooSoon = refl;
   notOwned = refl;
   notYet = refl;
+  cycle = refl;
   resetAnyhow = refl;
 }
+
+pub other-pages : OtherPages
+other-pages = record { all = refl }
 
 pub numbers : Numbers
 numbers = record { low = refl; high = refl; none = refl; own = refl }
 
 pub sense-cases : SenseCases
-unfolding allBelow orBelow look everyContender shown looked settled afterLook someCard isWithin afterLooksOf everyListed drivingFits makesSense
+unfolding allBelow orBelow look everyContender shown looked settled afterLook someCard isWithin afterLooksOf everyListed drivingFits standingFits makesSense
 sense-cases = record {
   atRest = refl;
   contending = refl;
   granted = refl;
   highCode = refl;
-  seventhPhase = refl;
+  noPhase = refl;
   unfittedContender = refl;
   nobodyContends = refl;
   contendsElsewhere = refl;

@@ -21,7 +21,17 @@ use Rattle.phases.specs.Phase as Phase
 use Rattle.cards.specs.Cards.{cardIn, someCard}
 use Rattle.bus.specs.State.{changed, silent, arbitrationOf, linesOf, isSettled}
 use Rattle.bus.specs.Steps.{lookedBy, afterLooksOf, mayAcknowledge, acknowledged}
-use Rattle.bus.specs.Promises.{Sensible, LooksDrive, LooksElsewhere, HighestThere, FourRounds, SettledOneWay, SettledShowIt, GrantsHighest, GrantsSettled}
+use Rattle.bus.specs.Promises.{
+  DrivingSensible,
+  LooksDrive,
+  LooksElsewhere,
+  HighestThere,
+  FourRounds,
+  SettledOneWay,
+  SettledShowIt,
+  GrantsHighest,
+  GrantsSettled,
+}
 use Rattle.bus.specs.declared.state.Bus.{Bus}
 use Rattle.cards.proofs.CardLaws.{card-below, some-at, some-of}
 use Rattle.bus.proofs.SenseLaws.{sense-means}
@@ -64,7 +74,7 @@ contender-of bus n c = record { present = card-below (bus .contenders) n c; cont
 
 pub highest-there : HighestThere
 highest-there bus e a =
-    let one = sense-means bus .0 e .someInArbitration a in
+    let one = sense-means bus .0 e .contention .someInArbitration a in
     let best = highest-exists (arbitrationOf bus) (one .0) (contender-of bus (one .0) (one .1)) in
     (best .0, (best .1, λ n other. four-highest-unique (λ q. cardIn (bus .contenders) q) n (best .0) other (best .1)))
 
@@ -75,8 +85,8 @@ four-rounds bus e a m best r₁ r₂ r₃ r₄ e₁ e₂ e₃ e₄ further =
     looks : List ℕ
     looks = flatten (r₁ ∷ r₂ ∷ r₃ ∷ r₄ ∷ []) ++ further
 
-    s : Sensible bus
-    s = sense-means bus .0 e
+    s : DrivingSensible (bus .contenders) (bus .driven)
+    s = sense-means bus .0 e .driving
 
     settles : SettledAt (arbitrationOf bus) (afterLooks (arbitrationOf bus) (bus .driven) looks) m
     settles =
@@ -95,7 +105,7 @@ settled-highest bus some still =
     (best .1)
 
 pub settled-show-it : SettledShowIt
-settled-show-it bus e a = let one = sense-means bus .0 e .someInArbitration a in settled-highest bus (some-of (bus .contenders) (one .0) (one .1))
+settled-show-it bus e a = let one = sense-means bus .0 e .contention .someInArbitration a in settled-highest bus (some-of (bus .contenders) (one .0) (one .1))
 
 acknowledge-taken : (bus : Bus) → mayAcknowledge bus ≡ true → acknowledged bus ≡ changed bus Phase.granted 0 silent (linesOf bus)
 acknowledge-taken bus may = rw may
@@ -115,7 +125,7 @@ grants-highest bus steps = go (true-or-false (mayAcknowledge bus))
 
 pub grants-settled : GrantsSettled
 grants-settled bus e a =
-    let one = sense-means bus .0 e .someInArbitration a in
+    let one = sense-means bus .0 e .contention .someInArbitration a in
     let some = some-of (bus .contenders) (one .0) (one .1) in (
       λ still. ap (λ (b : Bus). b .phase) (acknowledge-taken bus (rw (eq-eqb _ _ a, some) still)),
       λ moving. acknowledge-left bus (rw (eq-eqb _ _ a, some) moving),
@@ -131,11 +141,11 @@ settled-one-way bus other e f same still stilled =
     still
     (subst (λ (cards : ℕ). settled (fourLines (λ q. cardIn cards q)) (other .driven) ≡ true) (sym same) stilled)
   where
-    s : Sensible bus
-    s = sense-means bus .0 e
+    s : DrivingSensible (bus .contenders) (bus .driven)
+    s = sense-means bus .0 e .driving
 
-    t : Sensible other
-    t = sense-means other .0 f
+    t : DrivingSensible (other .contenders) (other .driven)
+    t = sense-means other .0 f .driving
 
     idle : (q : ℕ) → cardIn (bus .contenders) q ≡ false → Dec (q < 16) → getD (bus .driven) q 0 ≡ getD (other .driven) q 0
     idle q c (yes h) = s .idleDrives q h c ∙ sym (t .idleDrives q h (ap (λ (cards : ℕ). cardIn cards q) (sym same) ∙ c))

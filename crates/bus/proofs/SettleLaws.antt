@@ -15,7 +15,7 @@ use Rattle.words.proofs.FirstLaws.{numbered, first-append, least-is}
 use Rattle.bus.specs.Refusal as Refusal
 use Rattle.bus.specs.State.{isSettled}
 use Rattle.bus.specs.Steps.{afterLooksOf}
-use Rattle.bus.specs.Settle.{settledAfter, leadingLooks, neverSettles, listReasons, listRefusal, settleRefusal, refusedAs, acceptedAfter, settleOf}
+use Rattle.bus.specs.Settle.{settledAfter, leadingLooks, neverSettles, listReasons, listRefusal, settleRefusal, settleRefused, acceptedAfter, settleOf}
 use Rattle.bus.specs.declared.state.Bus.{Bus}
 use Rattle.bus.specs.declared.settle.Settlement.{Settlement}
 
@@ -26,7 +26,7 @@ module _ (bus : Bus) (cards : List ℕ) where
 
   -- what the looks answer, where nothing is wrong with the list
   abbrev pub looksAnswer : Settlement
-  looksAnswer = cond (neverSettles bus cards) (refusedAs Refusal.unsettled bus) (acceptedAfter (leadingLooks bus cards) bus cards)
+  looksAnswer = cond (neverSettles bus cards) (settleRefused Refusal.unsettled bus) (acceptedAfter (leadingLooks bus cards) bus cards)
 
   pub settled-after : (n : ℕ) {reached : Bus} → reached ≡ afterLooksOf bus (take n cards) → settledAfter bus cards n ≡ isSettled reached
   unfolding settledAfter
@@ -51,7 +51,7 @@ module _ (bus : Bus) (cards : List ℕ) where
       sometime : neverSettles bus cards ≡ false
       sometime = ⊎-elim (λ w. absurd (true≢false (sym at-n ∙ not-true _ (all-at _ (suc (length cards)) w n (omega arith))))) (λ f. f) (true-or-false _)
 
-  pub never : NotBefore (suc (length cards)) → refusedAs Refusal.unsettled bus ≡ looksAnswer
+  pub never : NotBefore (suc (length cards)) → settleRefused Refusal.unsettled bus ≡ looksAnswer
   unfolding neverSettles
   never none = let w : neverSettles bus cards ≡ true = all-of _ (suc (length cards)) (λ k h. ap not (none k h)) in rw w
 
@@ -65,7 +65,7 @@ module _ (bus : Bus) (cards : List ℕ) where
   unfolding settleRefusal listRefusal firstOf
   judged = first-append (listReasons bus cards) (reason Refusal.unsettled (neverSettles bus cards) ∷ []) reasons-numbered
 
-  pub list-refused : {refusal : ℕ} → refusal ≡ listRefusal bus cards → (refusal ≡ 0 → ⊥) → refusedAs refusal bus ≡ settleOf bus cards
+  pub list-refused : {refusal : ℕ} → refusal ≡ listRefusal bus cards → (refusal ≡ 0 → ⊥) → settleRefused refusal bus ≡ settleOf bus cards
   unfolding settleOf
   list-refused {refusal} e some =
       let same : settleRefusal bus cards ≡ refusal = judged ∙ rw (← e, ne-eqb refusal 0 some) in
@@ -77,7 +77,7 @@ module _ (bus : Bus) (cards : List ℕ) where
       let same : settleRefusal bus cards ≡ cond (neverSettles bus cards) Refusal.unsettled 0 = judged ∙ rw (← e, none) in
       rw same (by-cases (neverSettles bus cards))
     where
-      by-cases : (b : Bool) → cond b (refusedAs Refusal.unsettled bus) (acceptedAfter (leadingLooks bus cards) bus cards)
-          ≡ cond (eqb (cond b Refusal.unsettled 0) 0) (acceptedAfter (leadingLooks bus cards) bus cards) (refusedAs (cond b Refusal.unsettled 0) bus)
+      by-cases : (b : Bool) → cond b (settleRefused Refusal.unsettled bus) (acceptedAfter (leadingLooks bus cards) bus cards)
+          ≡ cond (eqb (cond b Refusal.unsettled 0) 0) (acceptedAfter (leadingLooks bus cards) bus cards) (settleRefused (cond b Refusal.unsettled 0) bus)
       by-cases true = refl
       by-cases false = refl

@@ -18,12 +18,27 @@ use Rattle.lines.specs.Arbitration.{Highest}
 use Rattle.phases.specs.Phase as Phase
 use Rattle.bus.specs.Refusal as Refusal
 use Rattle.bus.specs.State.{arbitrationOf, isSettled}
-use Rattle.bus.specs.Sense.{pagesKnown, makesSense}
+use Rattle.bus.specs.Sense.{codesKnown, makesSense, isSenseless}
 use Rattle.bus.specs.Setup.{setupOf}
 use Rattle.bus.specs.Steps.{afterLooksOf}
-use Rattle.bus.specs.Settle.{settledAfter, leadingLooks, neverSettles, isSenseless, namesNoCard, namesUnfitted, isElsewhere, namesIdle, settleReasons, listRefusal, settleRefusal, refusedAs, acceptedAfter, settleOf}
+use Rattle.bus.specs.Settle.{
+  settledAfter,
+  leadingLooks,
+  neverSettles,
+  listsNoCard,
+  listsUnfitted,
+  isElsewhere,
+  listsIdle,
+  settleReasons,
+  listRefusal,
+  settleRefusal,
+  settleRefused,
+  acceptedAfter,
+  settleOf,
+}
 use Rattle.bus.specs.Promises.{SettledBy, SettleRefusedKeeps, SettleCountsLeast, SettleByNumber, NoBuffersThere, SettleUnsettled, FourRoundsListed}
 use Rattle.bus.specs.declared.state.Bus.{Bus}
+use Rattle.bus.specs.declared.state.Chassis.{Chassis}
 use Rattle.bus.specs.declared.settle.Settlement.{Settlement}
 use Rattle.bus.proofs.Granting.{highest-there, four-rounds}
 use Rattle.bus.proofs.SettleLaws.{judged}
@@ -35,7 +50,7 @@ module _ (bus : Bus) (cards : List ℕ) where
   unfolding settleOf
   settle-accepted e = rw (eq-eqb _ _ e)
 
-  settle-refused : (settleRefusal bus cards ≡ 0 → ⊥) → settleOf bus cards ≡ refusedAs (settleRefusal bus cards) bus
+  settle-refused : (settleRefusal bus cards ≡ 0 → ⊥) → settleOf bus cards ≡ settleRefused (settleRefusal bus cards) bus
   unfolding settleOf
   settle-refused e = rw (ne-eqb _ _ e)
 
@@ -98,7 +113,7 @@ module _ (bus : Bus) (cards : List ℕ) where
 
 pub settle-refused-keeps : SettleRefusedKeeps
 settle-refused-keeps bus cards refused =
-    let kept : settleOf bus cards ≡ refusedAs (settleRefusal bus cards) bus = settle-refused bus cards (λ e. refused (answers bus cards ∙ e)) in
+    let kept : settleOf bus cards ≡ settleRefused (settleRefusal bus cards) bus = settle-refused bus cards (λ e. refused (answers bus cards ∙ e)) in
     (ap (λ (s : Settlement). s .bus) kept, ap (λ (s : Settlement). s .looks) kept)
 
 pub settle-counts-least : SettleCountsLeast
@@ -110,8 +125,8 @@ settle-by-number bus cards n h =
     let lowest = first-by-number (settleReasons bus cards) refl n h in
     (λ e. lowest .0 (sym (answers bus cards) ∙ e), λ low. answers bus cards ∙ lowest .1 low)
 
-setup-not-one : (fitted : ℕ) (pages : List ℕ) → setupOf fitted pages .answer ≡ Refusal.wrongBuffers → ⊥
-setup-not-one fitted pages = ⊎-elim (λ known. rw known none) (λ unknown. rw unknown eleven) (true-or-false (pagesKnown pages))
+setup-not-one : (chassis : Chassis) → setupOf chassis .answer ≡ Refusal.wrongBuffers → ⊥
+setup-not-one chassis = ⊎-elim (λ known. rw known none) (λ unknown. rw unknown eleven) (true-or-false (codesKnown chassis))
   where
     none : _≡_ {A = ℕ} 0x00 0x01 → ⊥
     none e = omega (arith, e)
@@ -142,7 +157,7 @@ first a b c d e =
 -- what is wrong with a list is never that the lines are unsettled
 list-never-unsettled : (bus : Bus) (cards : List ℕ) → listRefusal bus cards ≡ Refusal.unsettled → ⊥
 unfolding listRefusal firstOf
-list-never-unsettled bus cards = go (isSenseless bus) (namesNoCard cards) (namesUnfitted bus cards) (isElsewhere bus) (namesIdle bus cards)
+list-never-unsettled bus cards = go (isSenseless bus) (listsNoCard cards) (listsUnfitted bus cards) (isElsewhere bus) (listsIdle bus cards)
   where
     go : (a b c d e : Bool)
         → first a b c d e ≡ Refusal.unsettled → ⊥
@@ -157,7 +172,7 @@ list-never-unsettled bus cards = go (isSenseless bus) (namesNoCard cards) (names
 list-in-order : (bus : Bus) (cards : List ℕ) → listRefusal bus cards ≡ 0 → (makesSense bus ≡ true) × (bus .phase ≡ Phase.arbitration)
 unfolding listRefusal firstOf
 list-in-order bus cards e =
-    let both = go (makesSense bus) (namesNoCard cards) (namesUnfitted bus cards) (eqb (bus .phase) Phase.arbitration) (namesIdle bus cards) e in
+    let both = go (makesSense bus) (listsNoCard cards) (listsUnfitted bus cards) (eqb (bus .phase) Phase.arbitration) (listsIdle bus cards) e in
     (both .0, eqb-true _ _ (both .1))
   where
     go : (a b c d e : Bool) → first (not a) b c (not d) e ≡ 0 → (a ≡ true) × (d ≡ true)

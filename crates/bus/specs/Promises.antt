@@ -5,67 +5,107 @@ use mathlib.Core.Path.{_≡_}
 use mathlib.Core.Logic.{_↔_}
 use mathlib.Core.Bool.{true, false}
 use mathlib.Core.List.{List, [], _∷_, _++_, flatten}
-use lib.ListN.{length, getD, take}
+use lib.ListN.{length, getD, take, replicate}
 use Rattle.words.specs.First.{appliesAs}
 use Rattle.lines.specs.Arbitration.{Highest, isRound, afterLooks}
 use Rattle.phases.specs.Phase as Phase
 use Rattle.bus.specs.Refusal as Refusal
 use Rattle.cards.specs.Cards.{cardIn}
-use Rattle.bus.specs.State.{freeBus, nobody, silent, changed, arbitrationOf, linesOf, isSettled}
+use Rattle.bus.specs.State.{chassisOf, freeBus, nobody, silent, changed, arbitrationOf, linesOf, isSettled}
 use Rattle.bus.specs.Sense.{makesSense}
 use Rattle.bus.specs.Setup.{emptyBus, setupOf}
 use Rattle.bus.specs.Steps.{requested, afterLooksOf, acknowledged}
 use Rattle.phases.specs.Signal.{HOLD, pHLDA, isOn, signalsIn}
 use Rattle.bus.specs.Settle.{settleReasons, listRefusal, settleOf}
-use Rattle.bus.specs.Method.{Method, afterMethod}
+use Rattle.bus.specs.Step.{stepBy}
 use Rattle.bus.specs.declared.state.Bus.{Bus}
+use Rattle.bus.specs.declared.state.Chassis.{Chassis}
+use Rattle.bus.specs.declared.step.Step.{Step}
 use Rattle.bus.specs.declared.settle.Settlement.{Settlement}
 
 -- ---- Sense
 
--- what a state that makes sense is, sentence by sentence
+-- what a state that makes sense is, sentence by sentence, each clause of those parts of the state that it is about:
+-- the chassis,
+pub record ChassisSensible (chassis : Chassis) : Type 0 where
+  pub sixteenPages : length (chassis .pages) ≡ 16
+  pub codes : (p : ℕ) → p < 16 → getD (chassis .pages) p 0 ≤ 2
+
+-- the contenders,
+pub record ContentionSensible (fitted phase contenders : ℕ) : Type 0 where
+  pub contendersFitted : (n : ℕ) → cardIn contenders n ≡ true → cardIn fitted n ≡ true
+  pub someInArbitration : phase ≡ Phase.arbitration → (n : ℕ) × (cardIn contenders n ≡ true)
+  pub noneElsewhere : (phase ≡ Phase.arbitration → ⊥) → (n : ℕ) → cardIn contenders n ≡ false
+
+-- what they drive,
+pub record DrivingSensible (contenders : ℕ) (driven : List ℕ) : Type 0 where
+  pub sixteenLevels : length driven ≡ 16
+  pub contenderDrives : (n : ℕ) → cardIn contenders n ≡ true → getD driven n 0 ≤ 15
+  pub idleDrives : (n : ℕ) → n < 16 → cardIn contenders n ≡ false → getD driven n 0 ≡ 0
+
+-- and the granted card
+pub record GrantSensible (fitted phase granted : ℕ) : Type 0 where
+  pub grantedFitted : Phase.granted ≤ phase → phase ≤ Phase.transferTwo → cardIn fitted granted ≡ true
+  pub nobodyElsewhere : (Phase.granted ≤ phase → phase ≤ Phase.transferTwo → ⊥) → granted ≡ nobody
+
 pub record Sensible (bus : Bus) : Type 0 where
-  pub sixteenPages : length (bus .pages) ≡ 16
-  pub sixteenLevels : length (bus .driven) ≡ 16
-  pub codes : (p : ℕ) → p < 16 → getD (bus .pages) p 0 ≤ 2
-  pub phases : bus .phase ≤ 5
-  pub contendersFitted : (n : ℕ) → cardIn (bus .contenders) n ≡ true → cardIn (bus .fitted) n ≡ true
-  pub someInArbitration : bus .phase ≡ Phase.arbitration → (n : ℕ) × (cardIn (bus .contenders) n ≡ true)
-  pub noneElsewhere : (bus .phase ≡ Phase.arbitration → ⊥) → (n : ℕ) → cardIn (bus .contenders) n ≡ false
-  pub contenderDrives : (n : ℕ) → cardIn (bus .contenders) n ≡ true → getD (bus .driven) n 0 ≤ 15
-  pub idleDrives : (n : ℕ) → n < 16 → cardIn (bus .contenders) n ≡ false → getD (bus .driven) n 0 ≡ 0
-  pub grantedFitted : Phase.granted ≤ bus .phase → cardIn (bus .fitted) (bus .granted) ≡ true
-  pub nobodyElsewhere : bus .phase < Phase.granted → bus .granted ≡ nobody
+  pub chassis : ChassisSensible (chassisOf bus)
+  pub phaseKnown : bus .phase ≤ Phase.last
+  pub contention : ContentionSensible (bus .fitted) (bus .phase) (bus .contenders)
+  pub driving : DrivingSensible (bus .contenders) (bus .driven)
+  pub grant : GrantSensible (bus .fitted) (bus .phase) (bus .granted)
 
 -- The test says exactly that.
 abbrev pub SenseMeans : Type 0
 SenseMeans = (bus : Bus) → (makesSense bus ≡ true) ↔ Sensible bus
 
--- A state that makes sense still does after any method,
+-- A state that makes sense still does after any step, and after settle.
 abbrev pub SenseKept : Type 0
-SenseKept = (method : Method) (bus : Bus) → makesSense bus ≡ true → makesSense (afterMethod method bus) ≡ true
+SenseKept = (step : Step) (bus : Bus) (speaker datum : ℕ) → makesSense bus ≡ true → makesSense (stepBy step bus speaker datum) ≡ true
 
--- and no method changes the fitted cards or the pages, of any state.
-abbrev pub CardsAndPagesKept : Type 0
-CardsAndPagesKept = (method : Method) (bus : Bus) → (afterMethod method bus .fitted ≡ bus .fitted) × (afterMethod method bus .pages ≡ bus .pages)
+abbrev pub SenseKeptBySettle : Type 0
+SenseKeptBySettle = (bus : Bus) (cards : List ℕ) → makesSense bus ≡ true → makesSense (settleOf bus cards .bus) ≡ true
+
+-- The chassis of a bus is its fitted cards and its pages,
+abbrev pub ChassisHolds : Type 0
+ChassisHolds = (bus : Bus) → (chassisOf bus .fitted ≡ bus .fitted) × (chassisOf bus .pages ≡ bus .pages)
+
+-- and no step changes it, of any state, nor does settle.
+abbrev pub ChassisKept : Type 0
+ChassisKept = (step : Step) (bus : Bus) (speaker datum : ℕ) → chassisOf (stepBy step bus speaker datum) ≡ chassisOf bus
+
+abbrev pub ChassisKeptBySettle : Type 0
+ChassisKeptBySettle = (bus : Bus) (cards : List ℕ) → chassisOf (settleOf bus cards .bus) ≡ chassisOf bus
 
 -- ---- Setup
 
--- Setup refuses where a code is above 2, and then answers the bus without cards and pages;
+-- Setup refuses where a page code is above 2, and then answers the bus of an empty chassis;
 abbrev pub SetupRefuses : Type 0
 SetupRefuses =
-    (fitted : ℕ) (pages : List ℕ) (p : ℕ) → p < length pages → 2 < getD pages p 0
-    → (setupOf fitted pages .answer ≡ Refusal.badPage) × (setupOf fitted pages .bus ≡ emptyBus)
+    (chassis : Chassis) (p : ℕ) → p < length (chassis .pages) → 2 < getD (chassis .pages) p 0
+    → (setupOf chassis .answer ≡ Refusal.badPage) × (setupOf chassis .bus ≡ emptyBus)
 
--- otherwise it answers a free bus with these cards and pages;
+-- otherwise it answers a free bus with this chassis;
 abbrev pub SetupAccepts : Type 0
 SetupAccepts =
-    (fitted : ℕ) (pages : List ℕ) → ((p : ℕ) → p < length pages → getD pages p 0 ≤ 2)
-    → (setupOf fitted pages .answer ≡ Refusal.accepted) × (setupOf fitted pages .bus ≡ freeBus fitted pages)
+    (chassis : Chassis) → ((p : ℕ) → p < length (chassis .pages) → getD (chassis .pages) p 0 ≤ 2)
+    → (setupOf chassis .answer ≡ Refusal.accepted) × (setupOf chassis .bus ≡ freeBus chassis)
+
+-- which is this, part by part;
+pub record BeginsWith (chassis : Chassis) (bus : Bus) : Type 0 where
+  pub fitted : bus .fitted ≡ chassis .fitted
+  pub pages : bus .pages ≡ chassis .pages
+  pub phase : bus .phase ≡ 0
+  pub contenders : bus .contenders ≡ 0
+  pub driven : bus .driven ≡ replicate 16 0
+  pub granted : bus .granted ≡ 0xFF
+
+abbrev pub FreeBusBegins : Type 0
+FreeBusBegins = (chassis : Chassis) → BeginsWith chassis (freeBus chassis)
 
 -- and either makes sense.
 abbrev pub SetupMakesSense : Type 0
-SetupMakesSense = (fitted : ℕ) (pages : List ℕ) → length pages ≡ 16 → makesSense (setupOf fitted pages .bus) ≡ true
+SetupMakesSense = (chassis : Chassis) → length (chassis .pages) ≡ 16 → makesSense (setupOf chassis .bus) ≡ true
 
 -- ---- Arbitration
 
@@ -149,7 +189,7 @@ SettleByNumber =
 abbrev pub NoBuffersThere : Type 0
 NoBuffersThere =
     ((bus : Bus) (cards : List ℕ) → settleOf bus cards .answer ≡ Refusal.wrongBuffers → ⊥)
-    × ((fitted : ℕ) (pages : List ℕ) → setupOf fitted pages .answer ≡ Refusal.wrongBuffers → ⊥)
+    × ((chassis : Chassis) → setupOf chassis .answer ≡ Refusal.wrongBuffers → ⊥)
 
 -- Where the state and the list are in order, unsettled means that the lines are not settled after any beginning of the list.
 abbrev pub SettleUnsettled : Type 0

@@ -17,8 +17,8 @@ abbrev pub malformed : ℕ
 malformed = 0x03
 
 -- a request of nobody
-abbrev pub namesNobody : ℕ
-namesNobody = 0x04
+abbrev pub nobodyNamed : ℕ
+nobodyNamed = 0x04
 
 -- a card isn't fitted
 abbrev pub notFitted : ℕ

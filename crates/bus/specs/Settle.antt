@@ -11,7 +11,7 @@ use Rattle.phases.specs.Phase as Phase
 use Rattle.bus.specs.Refusal as Refusal
 use Rattle.cards.specs.Cards.{cardsWithin}
 use Rattle.bus.specs.State.{isSettled}
-use Rattle.bus.specs.Sense.{makesSense}
+use Rattle.bus.specs.Sense.{isSenseless}
 use Rattle.bus.specs.Steps.{afterLooksOf}
 use Rattle.bus.specs.declared.state.Bus.{Bus}
 use Rattle.bus.specs.declared.settle.Settlement.{Settlement}
@@ -32,34 +32,30 @@ neverSettles bus cards = allBelow (λ n. not (settledAfter bus cards n)) (suc (l
 
 -- ---- The refusals
 
--- 02
-abbrev pub isSenseless : Bus → Bool
-isSenseless bus = not (makesSense bus)
-
 -- 03: a number above 15
-abbrev pub namesNoCard : List ℕ → Bool
-namesNoCard cards = not (everyListed (λ card. leb card 15) cards)
+abbrev pub listsNoCard : List ℕ → Bool
+listsNoCard cards = not (everyListed (λ card. leb card 15) cards)
 
 -- 05: a card that isn't fitted
-abbrev pub namesUnfitted : Bus → List ℕ → Bool
-namesUnfitted bus cards = not (cardsWithin (bus .fitted) cards)
+abbrev pub listsUnfitted : Bus → List ℕ → Bool
+listsUnfitted bus cards = not (cardsWithin (bus .fitted) cards)
 
 -- 06: outside arbitration
 abbrev pub isElsewhere : Bus → Bool
 isElsewhere bus = not (eqb (bus .phase) Phase.arbitration)
 
 -- 07: a card that doesn't contend
-abbrev pub namesIdle : Bus → List ℕ → Bool
-namesIdle bus cards = not (cardsWithin (bus .contenders) cards)
+abbrev pub listsIdle : Bus → List ℕ → Bool
+listsIdle bus cards = not (cardsWithin (bus .contenders) cards)
 
 -- what the state and the whole list are judged for before the first look, the lowest number first
 abbrev pub listReasons : Bus → List ℕ → List Reason
 listReasons bus cards =
     reason Refusal.senseless (isSenseless bus)
-    ∷ reason Refusal.malformed (namesNoCard cards)
-    ∷ reason Refusal.notFitted (namesUnfitted bus cards)
+    ∷ reason Refusal.malformed (listsNoCard cards)
+    ∷ reason Refusal.notFitted (listsUnfitted bus cards)
     ∷ reason Refusal.wrongPhase (isElsewhere bus)
-    ∷ reason Refusal.notItsTurn (namesIdle bus cards)
+    ∷ reason Refusal.notItsTurn (listsIdle bus cards)
     ∷ []
 
 -- and what the looks are
@@ -74,8 +70,8 @@ settleRefusal bus cards = firstOf (settleReasons bus cards)
 
 -- ---- The answer
 
-abbrev pub refusedAs : ℕ → Bus → Settlement
-refusedAs number bus = record { answer = number; bus = bus; looks = 0 }
+abbrev pub settleRefused : ℕ → Bus → Settlement
+settleRefused number bus = record { answer = number; bus = bus; looks = 0 }
 
 abbrev pub acceptedAfter : ℕ → Bus → List ℕ → Settlement
 acceptedAfter n bus cards = record { answer = Refusal.accepted; bus = afterLooksOf bus (take n cards); looks = n }
@@ -83,4 +79,4 @@ acceptedAfter n bus cards = record { answer = Refusal.accepted; bus = afterLooks
 unfoldable pub settleOf : Bus → List ℕ → Settlement
 settleOf bus cards =
     cond (eqb (settleRefusal bus cards) Refusal.accepted) (acceptedAfter (leadingLooks bus cards) bus cards)
-    (refusedAs (settleRefusal bus cards) bus)
+    (settleRefused (settleRefusal bus cards) bus)

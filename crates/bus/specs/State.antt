@@ -7,6 +7,7 @@ use Rattle.lines.specs.Arbitration.{Arbitration, fourLines, shown, settled}
 use Rattle.cards.specs.Cards.{cardIn}
 use Rattle.phases.specs.Phase as Phase
 use Rattle.bus.specs.declared.state.Bus.{Bus}
+use Rattle.bus.specs.declared.state.Chassis.{Chassis}
 
 -- the granted card's place where nobody is granted
 abbrev pub nobody : ℕ
@@ -16,44 +17,52 @@ nobody = 0xFF
 abbrev pub silent : List ℕ
 silent = replicate 16 0
 
--- ---- The three places where a state is built. A new field gets its first value in freeBus, and is kept in the others.
+-- ---- What setup is given
 
--- free, with these cards and pages
-abbrev pub freeBus : ℕ → List ℕ → Bus
-freeBus fitted pages = record {
-  fitted = fitted;
-  pages = pages;
-  phase = Phase.free;
-  contenders = 0;
-  driven = silent;
-  granted = nobody;
-}
+-- these cards and pages
+abbrev pub chassis : ℕ → List ℕ → Chassis
+chassis fitted pages = record { fitted = fitted; pages = pages }
 
--- as it was, with all that the methods change given anew
-abbrev pub changed : Bus → ℕ → ℕ → List ℕ → ℕ → Bus
-changed bus phase contenders driven granted = record {
-  fitted = bus .fitted;
-  pages = bus .pages;
+-- nothing fitted, no memory on any page
+abbrev pub emptyChassis : Chassis
+emptyChassis = chassis 0 (replicate 16 0)
+
+-- what the bus was set up with
+abbrev pub chassisOf : Bus → Chassis
+chassisOf bus = chassis (bus .fitted) (bus .pages)
+
+-- ---- How a state is built
+
+-- the only place that does it: the chassis, and then what the events change
+abbrev pub built : Chassis → ℕ → ℕ → List ℕ → ℕ → Bus
+built chassis phase contenders driven granted = record {
+  fitted = chassis .fitted;
+  pages = chassis .pages;
   phase = phase;
   contenders = contenders;
   driven = driven;
   granted = granted;
 }
 
+-- as the bus is right after setup with this chassis
+abbrev pub freeBus : Chassis → Bus
+freeBus chassis = built chassis Phase.free 0 silent nobody
+
+-- as it was, with all that the events change given anew
+abbrev pub changed : Bus → ℕ → ℕ → List ℕ → ℕ → Bus
+changed bus = built (chassisOf bus)
+
+-- as it was, with another chassis
+abbrev pub withChassis : Bus → Chassis → Bus
+withChassis bus chassis = built chassis (bus .phase) (bus .contenders) (bus .driven) (bus .granted)
+
 -- as it was, with other page codes
 abbrev pub withPages : Bus → List ℕ → Bus
-withPages bus pages = record {
-  fitted = bus .fitted;
-  pages = pages;
-  phase = bus .phase;
-  contenders = bus .contenders;
-  driven = bus .driven;
-  granted = bus .granted;
-}
+withPages bus pages = withChassis bus (chassis (bus .fitted) pages)
 
 -- a state, part by part
 abbrev pub stateOf : ℕ → List ℕ → ℕ → ℕ → List ℕ → ℕ → Bus
-stateOf fitted pages phase contenders driven granted = changed (freeBus fitted pages) phase contenders driven granted
+stateOf fitted pages = built (chassis fitted pages)
 
 -- ---- The lines
 

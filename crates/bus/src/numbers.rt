@@ -12,7 +12,7 @@ pub const SENSELESS: u8 = 0x02;
 
 pub const MALFORMED: u8 = 0x03;
 
-pub const NAMES_NOBODY: u8 = 0x04;
+pub const NOBODY_NAMED: u8 = 0x04;
 
 pub const NOT_FITTED: u8 = 0x05;
 

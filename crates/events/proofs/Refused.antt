@@ -1,29 +1,32 @@
 -- Refused events: what they leave, what is answered, and by which number.
-use Rattle.words.proofs.TestLaws.{neither-of}
-use lib.Dec.{eqb, leb, ltb}
 use Prim.Native.Nat.{ℕ, _<_, _≤_}
 use mathlib.Core.Path.{_≡_, refl, sym, ap, _∙_, subst}
-use mathlib.Core.Logic.{_⊎_, _↔_, inl, inr}
-use mathlib.Core.Bool.{true, false, cond, not, true≢false, Bool, _&&_, _||_, and-eq-true-iff}
+use mathlib.Core.Logic.{_⊎_, _↔_, inl, inr, ⊎-elim}
+use mathlib.Core.Bool.{true, false, cond, not, true≢false, Bool, _&&_}
 use native.Mathlib.Omega.{arith}
-use borrow.Author.Tests.{ne-eqb, lt-leb, eqb-true, leb-true, ltb-false, not-false}
+use lib.Dec.{eqb, leb}
+use borrow.Author.Tests.{ne-eqb, le-ltb, lt-leb, eqb-true, leb-true, ltb-false, not-false}
 use Rattle.words.specs.First.{appliesAs, ascendsFrom, firstOf}
-use Rattle.words.specs.Among.{beside}
+use Rattle.words.specs.Among.{beside, hasBeside}
+use Rattle.words.proofs.TestLaws.{both-of, neither-of}
 use Rattle.words.proofs.FirstLaws.{first-by-number, none-applies}
 use Rattle.phases.specs.Phase as Phase
 use Rattle.phases.specs.Kind as Kind
 use Rattle.phases.specs.Signal.{HOLD, isOn, signalsIn}
 use Rattle.memory.specs.Cycles.{nothing}
 use Rattle.bus.specs.Refusal as Refusal
-use Rattle.judgement.specs.Table.{eventOf, rowIn, rowOf, permanentMaster, listsSpeaker, listsAddress, listsDatum}
-use Rattle.judgement.specs.Refusals.{isWrongPhase, hasStrayField, isTooWide, isMalformed}
+use Rattle.judgement.specs.Table.{eventOf, rowOf, listsSpeaker, listsAddress, mostDatum}
+use Rattle.judgement.specs.Refusals.{isWrongPhase}
 use Rattle.judgement.specs.Judge.{reasonsAgainst, refusalOf, soundRefusal}
 use Rattle.judgement.specs.declared.event.Event.{Event}
 use Rattle.judgement.proofs.Passed.{passed, accepted-call, sound-call}
+use Rattle.judgement.proofs.TableLaws.{each-kind-has-its-row}
 use Rattle.events.specs.Machine.{Machine}
 use Rattle.events.specs.Answers.{answerWith, bare, refusedWith}
 use Rattle.events.specs.Step.{answerBy, refusalIn, after, answerTo, soundAfter, soundAnswer}
-use Rattle.events.specs.Promises.{RefusedKeeps, RefusedAnswers, RefusedByNumber, AcceptedByNone, SoundStepIsTheStep, RequestInTransferTwo, RequestTooEarly, onlyNumber, AcceptedIsWellFormed}
+use Rattle.events.specs.Promises.{RefusedKeeps, onlyNumber, RefusedAnswers, RefusedByNumber, AcceptedByNone}
+use Rattle.events.specs.Promises.{AcceptedIsWellFormed, SoundStepIsTheStep, RequestInTransferTwo, RequestTooEarly}
+use Rattle.events.proofs.TakenLaws.{Formed, is-formed}
 
 pub refused-keeps : RefusedKeeps
 unfolding after
@@ -81,7 +84,7 @@ sound-step-is-the-step m event lengths sense = rw (sound-call (m .bus) event (m 
 -- ---- A request in transfer two
 
 wrong-then : (m : Machine) (event : Event) → m .bus .phase ≡ Phase.transferTwo → event .kind ≡ Kind.request → isWrongPhase (m .bus) event ≡ true
-unfolding rowIn
+unfolding beside
 wrong-then m event p k = rw (k, p)
 
 pub request-in-transfer-two : RequestInTransferTwo
@@ -92,57 +95,39 @@ request-in-transfer-two m event p k = (
 )
 
 pub request-too-early : RequestTooEarly
-unfolding soundRefusal firstOf rowIn
-request-too-early m cards p right sense some within =
+unfolding soundRefusal firstOf beside hasBeside
+request-too-early m cards p right sense sixteen some within =
     sound-call (m .bus) (eventOf Kind.request 0 0 cards) (m .memory) (m .ports) right (ap not sense)
-    ∙ rw (some, within, p)
+    ∙ rw (le-ltb 0xFFFF cards sixteen, some, within, p)
 
 -- ---- The fields of an accepted event
 
 pub accepted-is-well-formed : AcceptedIsWellFormed
+unfolding beside
 accepted-is-well-formed m event ok = record {
   kind = (leb-true _ _ (known .0), leb-true _ _ (known .1));
-  speaker = ltb-false _ _ (two .1);
-  noSpeaker = λ none. blank (listsSpeaker (event .kind)) (event .speaker) none (stray .0 .0);
-  noAddress = λ none. blank (listsAddress (event .kind)) (event .address) none (stray .0 .1);
-  noDatum = λ none. blank (listsDatum (event .kind)) (event .datum) none (stray .1);
-  byte = λ either. ltb-false _ _ (narrow either);
+  speaker = ltb-false _ _ (formed .speaker);
+  noSpeaker = λ none. blank (listsSpeaker (event .kind)) (event .speaker) none (stray .0);
+  noAddress = λ none. blank (listsAddress (event .kind)) (event .address) none (stray .1);
+  datum = formed .datum;
+  byte = ⊎-elim (narrow Kind.byteWrite refl) (narrow Kind.output refl);
 }
   where
-    formed : isMalformed event ≡ false
-    formed = passed (m .bus) event (accepted-call (m .bus) event (m .memory) (m .ports) ok .1 .1) .formed
+    formed : Formed m event ok
+    formed = is-formed m event ok
 
-    isKind : Bool
-    isKind = leb Kind.request (event .kind) && leb (event .kind) Kind.reset
-
-    all : ((not isKind || ltb permanentMaster (event .speaker) || hasStrayField event) ≡ false) × (isTooWide event ≡ false)
-    all = neither-of (not isKind || ltb permanentMaster (event .speaker) || hasStrayField event) (isTooWide event) formed
-
-    three : ((not isKind || ltb permanentMaster (event .speaker)) ≡ false) × (hasStrayField event ≡ false)
-    three = neither-of (not isKind || ltb permanentMaster (event .speaker)) (hasStrayField event) (all .0)
-
-    two : (not isKind ≡ false) × (ltb permanentMaster (event .speaker) ≡ false)
-    two = neither-of (not isKind) (ltb permanentMaster (event .speaker)) (three .0)
-
-    known : (leb Kind.request (event .kind) ≡ true) × (leb (event .kind) Kind.reset ≡ true)
-    known = and-eq-true-iff (leb Kind.request (event .kind)) (leb (event .kind) Kind.reset) .0 (not-false _ (two .0))
+    known : (leb Kind.request (event .kind) ≡ true) × (leb (event .kind) Kind.last ≡ true)
+    known = both-of _ _ (sym (each-kind-has-its-row (event .kind)) ∙ formed .kind)
 
     strayIn : Bool → ℕ → Bool
     strayIn lists field = not lists && not (eqb field 0)
 
-    stray : ((strayIn (listsSpeaker (event .kind)) (event .speaker) ≡ false) × (strayIn (listsAddress (event .kind)) (event .address) ≡ false))
-        × (strayIn (listsDatum (event .kind)) (event .datum) ≡ false)
-    stray =
-        let last =
-        neither-of (strayIn (listsSpeaker (event .kind)) (event .speaker) || strayIn (listsAddress (event .kind)) (event .address))
-        (strayIn (listsDatum (event .kind)) (event .datum))
-        (three .1) in
-        (neither-of (strayIn (listsSpeaker (event .kind)) (event .speaker)) (strayIn (listsAddress (event .kind)) (event .address)) (last .0), last .1)
+    stray : (strayIn (listsSpeaker (event .kind)) (event .speaker) ≡ false) × (strayIn (listsAddress (event .kind)) (event .address) ≡ false)
+    stray = neither-of (strayIn (listsSpeaker (event .kind)) (event .speaker)) (strayIn (listsAddress (event .kind)) (event .address)) (formed .noStray)
 
     blank : (lists : Bool) (field : ℕ) → lists ≡ false → strayIn lists field ≡ false → field ≡ 0
     blank true field none e = absurd (true≢false none)
     blank false field none e = eqb-true _ _ (not-false _ e)
 
-    narrow : (event .kind ≡ Kind.byteWrite) ⊎ (event .kind ≡ Kind.output) → ltb 0xFF (event .datum) ≡ false
-    narrow (inl e) = subst (λ (q : ℕ). ((eqb q Kind.byteWrite || eqb q Kind.output) && ltb 0xFF (event .datum)) ≡ false) e (all .1)
-    narrow (inr e) = subst (λ (q : ℕ). ((eqb q Kind.byteWrite || eqb q Kind.output) && ltb 0xFF (event .datum)) ≡ false) e (all .1)
+    narrow : (k : ℕ) → mostDatum k ≡ 0xFF → event .kind ≡ k → event .datum ≤ 0xFF
+    narrow k most e = subst (λ (top : ℕ). event .datum ≤ top) (ap mostDatum e ∙ most) (formed .datum)

@@ -6,11 +6,13 @@ use lib.Dec.{lit≤}
 use Rattle.phases.specs.Kind as Kind
 use Rattle.phases.specs.Signal.{signalsIn}
 use Rattle.phases.proofs.OnTheLines.{signals-most}
+use Rattle.memory.specs.declared.Slave.{Slave}
+use Rattle.memory.specs.Slave.{assertsSIXTN}
 use Rattle.events.specs.Answers.{wordSignals}
 
-pub signals-fit : (phase kind : ℕ) (sixteen : Bool) → signalsIn phase + wordSignals kind sixteen < 256
+pub signals-fit : (phase kind : ℕ) (s : Slave) → signalsIn phase + wordSignals kind s < 256
 unfolding wordSignals
-signals-fit phase kind sixteen = omega (arith, signals-most phase, word (Kind.isWord kind) sixteen)
+signals-fit phase kind s = omega (arith, signals-most phase, word (Kind.isWord kind) (assertsSIXTN s))
   where
     word : (b s : Bool) → cond b (0x80 + cond s 0x40 0) 0 ≤ 0xC0
     word true true = lit≤ tt

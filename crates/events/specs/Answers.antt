@@ -1,10 +1,12 @@
 -- The answer to an event (01, "The program and one whole run").
 use Prim.Native.Nat.{ℕ, _+_}
-use mathlib.Core.Bool.{Bool, cond}
+use mathlib.Core.Bool.{cond}
 use lib.Dec.{leb}
 use Rattle.phases.specs.Kind as Kind
 use Rattle.phases.specs.Signal.{SIXTN, sXTRQ, signalsIn}
 use Rattle.memory.specs.declared.Moved.{Moved}
+use Rattle.memory.specs.declared.Slave.{Slave}
+use Rattle.memory.specs.Slave.{assertsSIXTN}
 use Rattle.memory.specs.Cycles.{nothing}
 use Rattle.bus.specs.Refusal as Refusal
 use Rattle.bus.specs.State.{linesOf}
@@ -25,11 +27,11 @@ answerWith refusal bus signals status moved = record {
 }
 
 -- the signals that a word adds to its phase's
-unfoldable pub wordSignals : ℕ → Bool → ℕ
-wordSignals kind sixteen = cond (Kind.isWord kind) (sXTRQ + cond sixteen SIXTN 0) 0
+unfoldable pub wordSignals : ℕ → Slave → ℕ
+wordSignals kind s = cond (Kind.isWord kind) (sXTRQ + cond (assertsSIXTN s) SIXTN 0) 0
 
-abbrev pub signalsWith : ℕ → ℕ → Bool → ℕ
-signalsWith phase kind sixteen = signalsIn phase + wordSignals kind sixteen
+abbrev pub signalsWith : ℕ → ℕ → Slave → ℕ
+signalsWith phase kind s = signalsIn phase + wordSignals kind s
 
 -- a number alone
 abbrev pub bare : ℕ → Answer

@@ -1,10 +1,10 @@
--- Runs over eight bytes of memory and four ports, by the inner step, which asks for no lengths: 01's printed run with its word at 000002, and
--- words on both kinds of page.
+-- Runs over a few bytes of memory and four ports, by the inner step, which asks for no lengths: 01's printed run with its word at 000002, and
+-- words on both kinds of page, on page 0 and on another.
 use Prim.Native.Nat.{ℕ}
 use mathlib.Core.Path.{_≡_}
 use mathlib.Core.List.{List, [], _∷_}
 use lib.ListN.{replicate}
-use Rattle.bus.specs.State.{freeBus}
+use Rattle.bus.specs.State.{chassis, freeBus}
 use Rattle.judgement.specs.Table.{eventOf}
 use Rattle.judgement.specs.declared.event.Event.{Event}
 use Rattle.events.specs.Machine.{Machine, machine}
@@ -37,7 +37,7 @@ left m (event ∷ events) = left (soundAfter m event) events
 
 -- cards 1 and 3; page 0 with this code; nothing in eight bytes of memory and four ports
 abbrev pub small : ℕ → Machine
-small code = machine (freeBus 0x000A (code ∷ replicate 15 0)) (replicate 8 0) (replicate 4 0)
+small code = machine (freeBus (chassis 0x000A (code ∷ replicate 15 0))) (replicate 8 0) (replicate 4 0)
 
 -- ---- The printed run
 
@@ -111,3 +111,32 @@ pub record PermanentMasterCycles : Type 0 where
   pub ports : left (small 1) cycles .ports ≡ 0 ∷ 0x5A ∷ 0 ∷ 0 ∷ []
   -- over sixteen bits the same bytes
   pub sameBytes : left (small 2) cycles .memory ≡ left (small 1) cycles .memory
+
+-- ---- Words on two pages
+
+-- pages 0 and 1 with these codes; nothing in a memory that ends four bytes into page 1, and in four ports
+abbrev pub twoPages : ℕ → ℕ → Machine
+twoPages first second = machine (freeBus (chassis 0x000A (first ∷ second ∷ replicate 14 0))) (replicate 0x1004 0) (replicate 4 0)
+
+abbrev pub wordsOnBoth : List Event
+wordsOnBoth =
+    eventOf 0x0A 0x10 0x000002 0x1234
+    ∷ eventOf 0x0A 0x10 0x001002 0xABCD
+    ∷ eventOf 0x09 0x10 0x000002 0x0000
+    ∷ eventOf 0x09 0x10 0x001002 0x0000
+    ∷ []
+
+-- SIXTN and the cycles go by the word's own page.
+pub record WordsOnTwoPages : Type 0 where
+  pub sixteenAbove : answers (twoPages 1 2) wordsOnBoth
+      ≡ line 0x00 0x00 0xFF 0x00 0x80 0x10 0x02 0x1234
+      ∷ line 0x00 0x00 0xFF 0x00 0xC0 0x10 0x01 0xABCD
+      ∷ line 0x00 0x00 0xFF 0x00 0x80 0x01 0x02 0x1234
+      ∷ line 0x00 0x00 0xFF 0x00 0xC0 0x01 0x01 0xABCD
+      ∷ []
+  pub sixteenBelow : answers (twoPages 2 1) wordsOnBoth
+      ≡ line 0x00 0x00 0xFF 0x00 0xC0 0x10 0x01 0x1234
+      ∷ line 0x00 0x00 0xFF 0x00 0x80 0x10 0x02 0xABCD
+      ∷ line 0x00 0x00 0xFF 0x00 0xC0 0x01 0x01 0x1234
+      ∷ line 0x00 0x00 0xFF 0x00 0x80 0x01 0x02 0xABCD
+      ∷ []

@@ -3,7 +3,7 @@
 use Prim.Native.Nat.{ℕ, _+_, _/_, _<_, _≤_}
 use mathlib.Core.Path.{_≡_}
 use mathlib.Core.Logic.{_⊎_, _↔_}
-use mathlib.Core.Bool.{Bool, true, false, cond}
+use mathlib.Core.Bool.{true, false, cond}
 use mathlib.Core.List.{List}
 use lib.ListN.{length, getD, set}
 use Rattle.words.specs.First.{appliesAs}
@@ -16,18 +16,16 @@ use Rattle.phases.specs.Status.{sMEMR, sM1, sINP, sOUT, sWO}
 use Rattle.memory.specs.declared.Moved.{Moved}
 use Rattle.memory.specs.Halves.{evenHalf, oddHalf, wordOf}
 use Rattle.memory.specs.Cycles.{nothing, inOneCycle}
-use Rattle.memory.specs.Promises.{inWordCycles}
 use Rattle.cards.specs.Cards.{someCard, isWithin}
 use Rattle.bus.specs.Refusal as Refusal
 use Rattle.bus.specs.Sense.{makesSense}
-use Rattle.bus.specs.State.{nobody, silent, changed, withPages, linesOf}
+use Rattle.bus.specs.State.{nobody, silent, chassisOf, changed, withPages, linesOf}
 use Rattle.bus.specs.declared.state.Bus.{Bus}
-use Rattle.judgement.specs.Table.{eventOf, permanentMaster, listsSpeaker, listsAddress, listsDatum}
+use Rattle.judgement.specs.Table.{eventOf, permanentMaster, listsSpeaker, listsAddress, mostDatum, isCycle}
 use Rattle.judgement.specs.Refusals.{hasWrongBuffers}
 use Rattle.judgement.specs.Judge.{reasonsAgainst}
 use Rattle.judgement.specs.declared.event.Event.{Event}
 use Rattle.events.specs.Machine.{Machine, machine}
-use Rattle.events.specs.Cycles.{isSixteen}
 use Rattle.events.specs.Answers.{answerWith}
 use Rattle.events.specs.Step.{refusalIn, after, answerTo, soundAfter, soundAnswer}
 use Rattle.events.specs.declared.answers.Answer.{Answer}
@@ -63,13 +61,14 @@ AcceptedByNone =
     (m : Machine) (event : Event)
     → (answerTo m event .refusal ≡ Refusal.accepted) ↔ ((n : ℕ) → appliesAs n (reasonsAgainst (m .memory) (m .ports) (m .bus) event) ≡ false)
 
--- what an accepted event has in its fields: no more than its kind lists, a speaker that there is, and a byte where a byte goes
+-- what an accepted event has in its fields: a kind that there is, a speaker that there is, no more than its kind lists, and a byte where a byte
+-- goes
 pub record WellFormed (event : Event) : Type 0 where
-  pub kind : (Kind.request ≤ event .kind) × (event .kind ≤ Kind.reset)
+  pub kind : (Kind.request ≤ event .kind) × (event .kind ≤ Kind.last)
   pub speaker : event .speaker ≤ permanentMaster
   pub noSpeaker : listsSpeaker (event .kind) ≡ false → event .speaker ≡ 0
   pub noAddress : listsAddress (event .kind) ≡ false → event .address ≡ 0
-  pub noDatum : listsDatum (event .kind) ≡ false → event .datum ≡ 0
+  pub datum : event .datum ≤ mostDatum (event .kind)
   pub byte : (event .kind ≡ Kind.byteWrite) ⊎ (event .kind ≡ Kind.output) → event .datum ≤ 0xFF
 
 abbrev pub AcceptedIsWellFormed : Type 0
@@ -90,19 +89,18 @@ abbrev pub LengthsKept : Type 0
 LengthsKept =
     (m : Machine) (event : Event) → (length (after m event .memory) ≡ length (m .memory)) × (length (after m event .ports) ≡ length (m .ports))
 
--- No event changes the fitted cards or the pages.
-abbrev pub CardsAndPagesStay : Type 0
-CardsAndPagesStay =
-    (m : Machine) (event : Event) → (after m event .bus .fitted ≡ m .bus .fitted) × (after m event .bus .pages ≡ m .bus .pages)
+-- No event changes the chassis: the fitted cards and the pages.
+abbrev pub ChassisStays : Type 0
+ChassisStays = (m : Machine) (event : Event) → chassisOf (after m event .bus) ≡ chassisOf (m .bus)
 
 -- A cycle changes nothing of the bus,
 abbrev pub CyclesKeepTheBus : Type 0
-CyclesKeepTheBus = (m : Machine) (event : Event) → Kind.byteRead ≤ event .kind → event .kind ≤ Kind.output → after m event .bus ≡ m .bus
+CyclesKeepTheBus = (m : Machine) (event : Event) → isCycle (event .kind) ≡ true → after m event .bus ≡ m .bus
 
 -- another event no byte,
 abbrev pub OthersKeepBytes : Type 0
 OthersKeepBytes =
-    (m : Machine) (event : Event) → (event .kind < Kind.byteRead) ⊎ (Kind.output < event .kind)
+    (m : Machine) (event : Event) → isCycle (event .kind) ≡ false
     → (after m event .memory ≡ m .memory) × (after m event .ports ≡ m .ports)
 
 -- and whatever the event, a byte of the memory that isn't at its address or, for a word, after it, and a port that isn't at its address, stays.
@@ -125,24 +123,24 @@ pub record Steps (m : Machine) (event : Event) (bus : Bus) (signals : ℕ) (driv
   pub drives : driversIn (after m event .bus .phase) ≡ drivers
 
 -- an accepted event of this kind
-abbrev pub Accepted : ℕ → Machine → Event → Type 0
-Accepted kind m event = (event .kind ≡ kind) × (refusalIn m event ≡ Refusal.accepted)
+abbrev pub AcceptedAs : ℕ → Machine → Event → Type 0
+AcceptedAs kind m event = (event .kind ≡ kind) × (refusalIn m event ≡ Refusal.accepted)
 
 abbrev pub RequestDoes : Type 0
 RequestDoes =
-    (m : Machine) (event : Event) → Accepted Kind.request m event
+    (m : Machine) (event : Event) → AcceptedAs Kind.request m event
     → Steps m event (changed (m .bus) Phase.arbitration (event .datum) silent nobody) HOLD allPermanent
 
 abbrev pub LookDoes : Type 0
 LookDoes =
-    (m : Machine) (event : Event) → Accepted Kind.look m event
+    (m : Machine) (event : Event) → AcceptedAs Kind.look m event
     → Steps m event (changed (m .bus) Phase.arbitration (m .bus .contenders)
     (set (m .bus .driven) (event .speaker) (look 4 (event .speaker) (linesOf (m .bus))))
     nobody) HOLD allPermanent
 
 abbrev pub AcknowledgeDoes : Type 0
 AcknowledgeDoes =
-    (m : Machine) (event : Event) → Accepted Kind.acknowledge m event
+    (m : Machine) (event : Event) → AcceptedAs Kind.acknowledge m event
     → Steps m event (changed (m .bus) Phase.granted 0 silent (linesOf (m .bus))) (HOLD + pHLDA) allPermanent
 
 -- the bus goes to this phase, and nothing else of it changes
@@ -152,23 +150,23 @@ LeadsTo phase m event signals drivers =
 
 abbrev pub BeginTransferOneDoes : Type 0
 BeginTransferOneDoes =
-    (m : Machine) (event : Event) → Accepted Kind.beginTransferOne m event → LeadsTo Phase.transferOne m event (HOLD + pHLDA + disabling) changingHands
+    (m : Machine) (event : Event) → AcceptedAs Kind.beginTransferOne m event → LeadsTo Phase.transferOne m event (HOLD + pHLDA + disabling) changingHands
 
 abbrev pub TakeBusDoes : Type 0
-TakeBusDoes = (m : Machine) (event : Event) → Accepted Kind.takeBus m event → LeadsTo Phase.owned m event (HOLD + pHLDA + disabling + CDSB) allCard
+TakeBusDoes = (m : Machine) (event : Event) → AcceptedAs Kind.takeBus m event → LeadsTo Phase.owned m event (HOLD + pHLDA + disabling + CDSB) allCard
 
 abbrev pub BeginTransferTwoDoes : Type 0
 BeginTransferTwoDoes =
-    (m : Machine) (event : Event) → Accepted Kind.beginTransferTwo m event → LeadsTo Phase.transferTwo m event (pHLDA + disabling) changingHands
+    (m : Machine) (event : Event) → AcceptedAs Kind.beginTransferTwo m event → LeadsTo Phase.transferTwo m event (pHLDA + disabling) changingHands
 
 abbrev pub GiveBackDoes : Type 0
 GiveBackDoes =
-    (m : Machine) (event : Event) → Accepted Kind.giveBack m event
+    (m : Machine) (event : Event) → AcceptedAs Kind.giveBack m event
     → Steps m event (changed (m .bus) Phase.free (m .bus .contenders) (m .bus .driven) nobody) 0 allPermanent
 
 abbrev pub ResetDoes : Type 0
 ResetDoes =
-    (m : Machine) (event : Event) → Accepted Kind.reset m event
+    (m : Machine) (event : Event) → AcceptedAs Kind.reset m event
     → Steps m event (changed (m .bus) Phase.free 0 silent nobody) 0 allPermanent
 
 -- ---- Cycles
@@ -180,53 +178,63 @@ Moves m event memory ports word status moved =
 
 abbrev pub ByteReadDoes : Type 0
 ByteReadDoes =
-    (m : Machine) (event : Event) → Accepted Kind.byteRead m event
+    (m : Machine) (event : Event) → AcceptedAs Kind.byteRead m event
     → Moves m event (m .memory) (m .ports) 0 sMEMR (inOneCycle (getD (m .memory) (event .address) 0))
 
 abbrev pub OpcodeFetchDoes : Type 0
 OpcodeFetchDoes =
-    (m : Machine) (event : Event) → Accepted Kind.opcodeFetch m event
+    (m : Machine) (event : Event) → AcceptedAs Kind.opcodeFetch m event
     → Moves m event (m .memory) (m .ports) 0 (sMEMR + sM1) (inOneCycle (getD (m .memory) (event .address) 0))
 
 abbrev pub ByteWriteDoes : Type 0
 ByteWriteDoes =
-    (m : Machine) (event : Event) → Accepted Kind.byteWrite m event
+    (m : Machine) (event : Event) → AcceptedAs Kind.byteWrite m event
     → Moves m event (set (m .memory) (event .address) (event .datum)) (m .ports) 0 sWO (inOneCycle (event .datum))
 
 abbrev pub InputDoes : Type 0
 InputDoes =
-    (m : Machine) (event : Event) → Accepted Kind.input m event
+    (m : Machine) (event : Event) → AcceptedAs Kind.input m event
     → Moves m event (m .memory) (m .ports) 0 sINP (inOneCycle (getD (m .ports) (event .address) 0))
 
 abbrev pub OutputDoes : Type 0
 OutputDoes =
-    (m : Machine) (event : Event) → Accepted Kind.output m event
+    (m : Machine) (event : Event) → AcceptedAs Kind.output m event
     → Moves m event (m .memory) (set (m .ports) (event .address) (event .datum)) 0 (sOUT + sWO) (inOneCycle (event .datum))
 
--- the signals of a word
-abbrev pub wordAdds : Bool → ℕ
-wordAdds sixteen = sXTRQ + cond sixteen SIXTN 0
+-- the code of the page that the event's address lies in: there are sixteen, of 1000h bytes each
+abbrev pub codeThere : Machine → Event → ℕ
+codeThere m event = getD (m .bus .pages) (event .address / 0x1000) 0
+
+-- A word lies on a page of code 1, eight bits: two cycles, without SIXTN; or on one of code 2, sixteen bits: one cycle, with SIXTN.
+abbrev pub ByItsPage : Machine → Event → (ℕ → ℕ → Type 0) → Type 0
+ByItsPage m event does = ((codeThere m event ≡ 1) × does sXTRQ 2) ⊎ ((codeThere m event ≡ 2) × does (sXTRQ + SIXTN) 1)
+
+-- a word, and how many cycles it took
+abbrev pub wordIn : ℕ → ℕ → Moved
+wordIn cycles datum = record { datum = datum; cycles = cycles }
 
 abbrev pub WordReadDoes : Type 0
 WordReadDoes =
-    (m : Machine) (event : Event) → Accepted Kind.wordRead m event → (sixteen : Bool) → isSixteen (m .bus .pages) (event .address) ≡ sixteen
-    → Moves m event (m .memory) (m .ports) (wordAdds sixteen) sMEMR
-    (inWordCycles sixteen (wordOf (getD (m .memory) (event .address) 0) (getD (m .memory) (event .address + 1) 0)))
+    (m : Machine) (event : Event) → AcceptedAs Kind.wordRead m event
+    → ByItsPage m event (λ signals cycles.
+    Moves m event (m .memory) (m .ports) signals sMEMR
+    (wordIn cycles (wordOf (getD (m .memory) (event .address) 0) (getD (m .memory) (event .address + 1) 0))))
 
 abbrev pub WordWriteDoes : Type 0
 WordWriteDoes =
-    (m : Machine) (event : Event) → Accepted Kind.wordWrite m event → (sixteen : Bool) → isSixteen (m .bus .pages) (event .address) ≡ sixteen
-    → Moves m event
+    (m : Machine) (event : Event) → AcceptedAs Kind.wordWrite m event
+    → ByItsPage m event (λ signals cycles.
+    Moves m event
     (set (set (m .memory) (event .address) (evenHalf (event .datum))) (event .address + 1) (oddHalf (event .datum)))
     (m .ports)
-    (wordAdds sixteen)
+    signals
     sWO
-    (inWordCycles sixteen (event .datum))
+    (wordIn cycles (event .datum)))
 
 -- In an accepted cycle the speaker drives all four groups of lines: in phases 0 and 1 it is the permanent master, in phase 4 the granted card.
 abbrev pub SpeakerDrives : Type 0
 SpeakerDrives =
-    (m : Machine) (event : Event) → Kind.byteRead ≤ event .kind → event .kind ≤ Kind.output → refusalIn m event ≡ Refusal.accepted
+    (m : Machine) (event : Event) → isCycle (event .kind) ≡ true → refusalIn m event ≡ Refusal.accepted
     → ((m .bus .phase ≤ Phase.arbitration) × ((event .speaker ≡ permanentMaster) × (driversIn (m .bus .phase) ≡ allPermanent)))
     ⊎ ((m .bus .phase ≡ Phase.owned) × ((event .speaker ≡ m .bus .granted) × (driversIn (m .bus .phase) ≡ allCard)))
 
@@ -267,5 +275,5 @@ RequestInTransferTwo =
 abbrev pub RequestTooEarly : Type 0
 RequestTooEarly =
     (m : Machine) (cards : ℕ) → m .bus .phase ≡ Phase.transferTwo → hasWrongBuffers (m .memory) (m .ports) ≡ false → makesSense (m .bus) ≡ true
-    → someCard cards ≡ true → isWithin cards (m .bus .fitted) ≡ true
+    → cards ≤ 0xFFFF → someCard cards ≡ true → isWithin cards (m .bus .fitted) ≡ true
     → refusalIn m (eventOf Kind.request 0 0 cards) ≡ Refusal.wrongPhase

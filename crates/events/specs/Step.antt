@@ -4,59 +4,36 @@ use mathlib.Core.Bool.{cond}
 use lib.Dec.{eqb}
 use Rattle.phases.specs.Status.{statusOf}
 use Rattle.bus.specs.Refusal as Refusal
-use Rattle.bus.specs.Steps.{requested, lookedBy, acknowledged, transferOneBegun, busTaken, transferTwoBegun, givenBack, resetTo}
+use Rattle.bus.specs.Step.{stepBy}
 use Rattle.bus.specs.declared.state.Bus.{Bus}
+use Rattle.bus.specs.declared.step.Step.{Step}
 use Rattle.judgement.specs.Table.{rowOf}
 use Rattle.judgement.specs.Judge.{soundRefusal, refusalOf}
 use Rattle.judgement.specs.declared.event.Event.{Event}
-use Rattle.judgement.specs.declared.verdict.Verdict.{Verdict}
-use Rattle.judgement.specs.declared.verdict.Verdict.the-variants.{
-  Refused,
-  Request,
-  Look,
-  Acknowledge,
-  BeginTransferOne,
-  TakeBus,
-  Cycle,
-  BeginTransferTwo,
-  GiveBack,
-  Reset,
-}
 use Rattle.events.specs.Machine.{Machine, machine}
-use Rattle.events.specs.Cycles.{isSixteen, movedBy, memoryLeft, portsLeft}
+use Rattle.events.specs.Cycles.{slaveAt, movedBy, memoryLeft, portsLeft}
 use Rattle.events.specs.Answers.{answerWith, signalsWith, refusedWith}
 use Rattle.events.specs.declared.answers.Answer.{Answer}
 use Rattle.events.specs.declared.answers.Stepped.{Stepped}
 
--- ---- What each verdict does to the bus
-
-abbrev pub stepBy : Verdict → Bus → Event → Bus
-stepBy (Refused number) bus event = bus
-stepBy Request bus event = requested bus (event .datum)
-stepBy Look bus event = lookedBy bus (event .speaker)
-stepBy Acknowledge bus event = acknowledged bus
-stepBy BeginTransferOne bus event = transferOneBegun bus (event .speaker)
-stepBy TakeBus bus event = busTaken bus (event .speaker)
-stepBy Cycle bus event = bus
-stepBy BeginTransferTwo bus event = transferTwoBegun bus (event .speaker)
-stepBy GiveBack bus event = givenBack bus (event .speaker)
-stepBy Reset bus event = resetTo bus
-
 -- ---- An accepted event
 
--- by whichever verdict
-abbrev pub takenBy : Verdict → Machine → Event → Machine
-takenBy verdict m event =
-    machine (stepBy verdict (m .bus) event)
-    (memoryLeft (isSixteen (m .bus .pages) (event .address)) event (m .memory))
+-- the bus after a step, with the event's fields
+abbrev pub busBy : Step → Bus → Event → Bus
+busBy step bus event = stepBy step bus (event .speaker) (event .datum)
+
+abbrev pub takenBy : Step → Machine → Event → Machine
+takenBy step m event =
+    machine (busBy step (m .bus) event)
+    (memoryLeft (slaveAt (m .bus .pages) (event .address)) event (m .memory))
     (portsLeft event (m .ports))
 
-abbrev pub answerBy : Verdict → Machine → Event → Answer
-answerBy verdict m event =
-    answerWith Refusal.accepted (stepBy verdict (m .bus) event)
-    (signalsWith (stepBy verdict (m .bus) event .phase) (event .kind) (isSixteen (m .bus .pages) (event .address)))
+abbrev pub answerBy : Step → Machine → Event → Answer
+answerBy step m event =
+    answerWith Refusal.accepted (busBy step (m .bus) event)
+    (signalsWith (busBy step (m .bus) event .phase) (event .kind) (slaveAt (m .bus .pages) (event .address)))
     (statusOf (event .kind))
-    (movedBy (isSixteen (m .bus .pages) (event .address)) event (m .memory) (m .ports))
+    (movedBy (slaveAt (m .bus .pages) (event .address)) event (m .memory) (m .ports))
 
 -- ---- Accepted or refused, by the refusal that was found
 
@@ -81,6 +58,9 @@ after m event = afterAs (refusalIn m event) m event
 unfoldable pub answerTo : Machine → Event → Answer
 answerTo m event = answerAs (refusalIn m event) m event
 
+abbrev pub stepOf : Machine → Event → Stepped
+stepOf m event = stepped (after m event .bus) (answerTo m event)
+
 -- ---- The step where buffers and state are known to be sound: 01 and 02 aren't asked
 
 unfoldable pub soundAfter : Machine → Event → Machine
@@ -88,3 +68,6 @@ soundAfter m event = afterAs (soundRefusal (m .bus) event) m event
 
 unfoldable pub soundAnswer : Machine → Event → Answer
 soundAnswer m event = answerAs (soundRefusal (m .bus) event) m event
+
+abbrev pub soundStepOf : Machine → Event → Stepped
+soundStepOf m event = stepped (soundAfter m event .bus) (soundAnswer m event)

@@ -1,8 +1,6 @@
-// What is answered to an event on a bus with its memory and its ports.
+// What is answered to an event on a bus with its memory and its ports: specs/ has the step, proofs/ what is promised of it. The step's code is in
+// `stepping`.
 mod answers;
 
 pub use answers::Answer;
 pub use answers::Stepped;
-pub use answers::answer_with;
-pub use answers::bare;
-pub use answers::signals_with;

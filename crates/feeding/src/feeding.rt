@@ -6,7 +6,9 @@ ghost use lib.ListN.{length, take};
 ghost use lib.Seq.{sets};
 ghost use Rattle.bus.specs.Sense.{makesSense};
 ghost use Rattle.judgement.specs.Refusals.{hasWrongBuffers};
-ghost use Rattle.session.specs.Feeding.{worldOf, takes, feedRefusal, refusedFed, takenFed, heldIn, fedOf, worldLeft, outLeft, textLeft, endedText, endedAt, finishedOf, finishedText, finishedOut, finishedWorld};
+ghost use Rattle.session.specs.Feeding.{worldOf, takes, feedRefusal, refusedFed, takenFed, heldIn};
+ghost use Rattle.session.specs.Feeding.{fedOf, worldLeft, outLeft, textLeft};
+ghost use Rattle.session.specs.Feeding.{endedText, endedAt, finishedOf, finishedText, finishedOut, finishedWorld};
 use crate::holding::hold;
 use crate::taking::take_lines;
 use bus::Bus;
@@ -16,7 +18,7 @@ use session::Fed;
 use session::Session;
 use text::NEWLINE;
 
-// Takes lines that have ended in the filled part of the text, the setup line alone or as many events as have room for their answers, and brings the rest to the front.
+// Takes the lines that have ended in the filled part of the text, as many as have room for their answers, and brings the rest to the front.
 // What is read next goes behind it.
 pub fn feed(
     session: Session,
@@ -27,21 +29,25 @@ pub fn feed(
     ports: &mut [u8],
 ) -> Fed
     ensures fed { λ r. ⌜ r ≡ fedOf (worldOf session (now (memory .entry)) (now (ports .entry))) (now (text .entry)) filled (now (out .entry)) ⌝ }
-    ensures text_left { λ _. ⌜ now (text .exit) ≡ textLeft (worldOf session (now (memory .entry)) (now (ports .entry))) (now (text .entry)) filled (now (out .entry)) ⌝ }
-    ensures out_left { λ _. ⌜ now (out .exit) ≡ outLeft (worldOf session (now (memory .entry)) (now (ports .entry))) (now (text .entry)) filled (now (out .entry)) ⌝ }
-    ensures memory_left { λ _. ⌜ now (memory .exit) ≡ worldLeft (worldOf session (now (memory .entry)) (now (ports .entry))) (now (text .entry)) filled (now (out .entry)) .memory ⌝ }
-    ensures ports_left { λ _. ⌜ now (ports .exit) ≡ worldLeft (worldOf session (now (memory .entry)) (now (ports .entry))) (now (text .entry)) filled (now (out .entry)) .ports ⌝ }
+    ensures text_left { λ _. ⌜ now (text .exit) ≡
+        textLeft (worldOf session (now (memory .entry)) (now (ports .entry))) (now (text .entry)) filled (now (out .entry)) ⌝ }
+    ensures out_left { λ _. ⌜ now (out .exit) ≡
+        outLeft (worldOf session (now (memory .entry)) (now (ports .entry))) (now (text .entry)) filled (now (out .entry)) ⌝ }
+    ensures memory_left { λ _. ⌜ now (memory .exit) ≡
+        worldLeft (worldOf session (now (memory .entry)) (now (ports .entry))) (now (text .entry)) filled (now (out .entry)) .memory ⌝ }
+    ensures ports_left { λ _. ⌜ now (ports .exit) ≡
+        worldLeft (worldOf session (now (memory .entry)) (now (ports .entry))) (now (text .entry)) filled (now (out .entry)) .ports ⌝ }
 {
     let refusal = feed_refusal(session.bus, text, filled, memory, ports);
     if refusal == ACCEPTED {
         take_in(session, text, filled, out, memory, ports)
     } else {
-        refused(refusal, session, filled)
+        refused_fed(refusal, session, filled)
     }
 }
 
 // A refused call does nothing.
-fn refused(refusal: u8, session: Session, filled: usize) -> Fed
+fn refused_fed(refusal: u8, session: Session, filled: usize) -> Fed
     ensures { λ r. ⌜ r ≡ refusedFed refusal session filled ⌝ }
 {
     Fed {
@@ -63,11 +69,18 @@ fn take_in(
     requires { ⌜ filled ≤ length (now text) ⌝ }
     requires { ⌜ hasWrongBuffers (now memory) (now ports) ≡ false ⌝ }
     requires { ⌜ makesSense (session .bus) ≡ true ⌝ }
-    ensures fed { λ r. ⌜ r ≡ takenFed (takes (length (now (out .entry))) (worldOf session (now (memory .entry)) (now (ports .entry))) (take filled (now (text .entry)))) ⌝ }
-    ensures text_left { λ _. ⌜ now (text .exit) ≡ heldIn (now (text .entry)) (takes (length (now (out .entry))) (worldOf session (now (memory .entry)) (now (ports .entry))) (take filled (now (text .entry))) .rest) ⌝ }
-    ensures out_left { λ _. ⌜ now (out .exit) ≡ sets (now (out .entry)) 0 (takes (length (now (out .entry))) (worldOf session (now (memory .entry)) (now (ports .entry))) (take filled (now (text .entry))) .said) ⌝ }
-    ensures memory_left { λ _. ⌜ now (memory .exit) ≡ takes (length (now (out .entry))) (worldOf session (now (memory .entry)) (now (ports .entry))) (take filled (now (text .entry))) .state .memory ⌝ }
-    ensures ports_left { λ _. ⌜ now (ports .exit) ≡ takes (length (now (out .entry))) (worldOf session (now (memory .entry)) (now (ports .entry))) (take filled (now (text .entry))) .state .ports ⌝ }
+    ensures fed { λ r. ⌜ r ≡
+        takenFed (takes (length (now (out .entry))) (worldOf session (now (memory .entry)) (now (ports .entry))) (take filled (now (text .entry)))) ⌝ }
+    ensures text_left { λ _. ⌜ now (text .exit) ≡
+        heldIn (now (text .entry)) (takes (length (now (out .entry)))
+        (worldOf session (now (memory .entry)) (now (ports .entry))) (take filled (now (text .entry))) .rest) ⌝ }
+    ensures out_left { λ _. ⌜ now (out .exit) ≡
+        sets (now (out .entry)) 0 (takes (length (now (out .entry)))
+        (worldOf session (now (memory .entry)) (now (ports .entry))) (take filled (now (text .entry))) .said) ⌝ }
+    ensures memory_left { λ _. ⌜ now (memory .exit) ≡
+        takes (length (now (out .entry))) (worldOf session (now (memory .entry)) (now (ports .entry))) (take filled (now (text .entry))) .state .memory ⌝ }
+    ensures ports_left { λ _. ⌜ now (ports .exit) ≡
+        takes (length (now (out .entry))) (worldOf session (now (memory .entry)) (now (ports .entry))) (take filled (now (text .entry))) .state .ports ⌝ }
 {
     let taken = take_lines(session, &text[..filled], out, memory, ports);
     let held = hold(text, taken.used, filled);
@@ -104,17 +117,21 @@ pub fn finish(
     ports: &mut [u8],
 ) -> Fed
     ensures fed { λ r. ⌜ r ≡ finishedOf (worldOf session (now (memory .entry)) (now (ports .entry))) (now (text .entry)) held (now (out .entry)) ⌝ }
-    ensures text_left { λ _. ⌜ now (text .exit) ≡ finishedText (worldOf session (now (memory .entry)) (now (ports .entry))) (now (text .entry)) held (now (out .entry)) ⌝ }
-    ensures out_left { λ _. ⌜ now (out .exit) ≡ finishedOut (worldOf session (now (memory .entry)) (now (ports .entry))) (now (text .entry)) held (now (out .entry)) ⌝ }
-    ensures memory_left { λ _. ⌜ now (memory .exit) ≡ finishedWorld (worldOf session (now (memory .entry)) (now (ports .entry))) (now (text .entry)) held (now (out .entry)) .memory ⌝ }
-    ensures ports_left { λ _. ⌜ now (ports .exit) ≡ finishedWorld (worldOf session (now (memory .entry)) (now (ports .entry))) (now (text .entry)) held (now (out .entry)) .ports ⌝ }
+    ensures text_left { λ _. ⌜ now (text .exit) ≡
+        finishedText (worldOf session (now (memory .entry)) (now (ports .entry))) (now (text .entry)) held (now (out .entry)) ⌝ }
+    ensures out_left { λ _. ⌜ now (out .exit) ≡
+        finishedOut (worldOf session (now (memory .entry)) (now (ports .entry))) (now (text .entry)) held (now (out .entry)) ⌝ }
+    ensures memory_left { λ _. ⌜ now (memory .exit) ≡
+        finishedWorld (worldOf session (now (memory .entry)) (now (ports .entry))) (now (text .entry)) held (now (out .entry)) .memory ⌝ }
+    ensures ports_left { λ _. ⌜ now (ports .exit) ≡
+        finishedWorld (worldOf session (now (memory .entry)) (now (ports .entry))) (now (text .entry)) held (now (out .entry)) .ports ⌝ }
 {
     let refusal = feed_refusal(session.bus, text, held, memory, ports);
     if refusal == ACCEPTED {
         let filled = end_line(text, held);
         take_in(session, text, filled, out, memory, ports)
     } else {
-        refused(refusal, session, held)
+        refused_fed(refusal, session, held)
     }
 }
 

@@ -6,17 +6,18 @@ ghost use lib.ListN.{length, take, drop};
 ghost use lib.Seq.{paste};
 ghost use Rattle.text.specs.Reading.{heldOf};
 use reading::line_end;
-use text::SETUP_DIGITS;
+use text::LONGEST;
 
-// One byte more than the longest right line has.
-const HELD: usize = SETUP_DIGITS + 1;
+// The most bytes that are held of a line that isn't ended: one more than the longest right line has.
+const MOST_HELD: usize = LONGEST + 1;
 
 // The bytes from one place to another go to the front, but a line that isn't ended is cut.
 pub fn hold(text: &mut [u8], from: usize, filled: usize) -> usize
     requires { ⌜ from ≤ filled ⌝ }
     requires { ⌜ filled ≤ length (now text) ⌝ }
     ensures held { λ r. ⌜ r ≡ length (heldOf (drop from (take filled (now (text .entry))))) ⌝ }
-    ensures left { λ _. ⌜ now (text .exit) ≡ heldOf (drop from (take filled (now (text .entry)))) ++ drop (length (heldOf (drop from (take filled (now (text .entry)))))) (now (text .entry)) ⌝ }
+    ensures left { λ _. ⌜ now (text .exit) ≡
+        heldOf (drop from (take filled (now (text .entry)))) ++ drop (length (heldOf (drop from (take filled (now (text .entry)))))) (now (text .entry)) ⌝ }
 {
     let count = held_count(&text[from..filled]);
     bring_down(text, from, count);
@@ -27,8 +28,8 @@ fn held_count(rest: &[u8]) -> usize
     ensures { λ r. ⌜ r ≡ length (heldOf (now (rest .entry))) ⌝ }
 {
     let size = rest.len();
-    if (line_end(rest) == size) & (HELD < size) {
-        HELD
+    if (line_end(rest) == size) & (MOST_HELD < size) {
+        MOST_HELD
     } else {
         size
     }

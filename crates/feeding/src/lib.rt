@@ -1,7 +1,10 @@
 // A run of the program in calls, each with a piece of the text.
 mod feeding;
 mod holding;
+mod setting;
 mod taking;
 
 pub use feeding::feed;
 pub use feeding::finish;
+pub use setting::fresh;
+pub use taking::has_room;

@@ -1,23 +1,37 @@
 -- The small states' events and the columns, by computation.
 use mathlib.Core.Path.{refl}
 use Rattle.words.specs.Below.{allBelow, orBelow}
+use Rattle.words.specs.Among.{beside, hasBeside}
 use Rattle.words.specs.First.{firstOf}
 use Rattle.lines.specs.Look.{look}
 use Rattle.lines.specs.Arbitration.{everyContender, shown, looked, settled}
 use Rattle.cards.specs.Cards.{someCard, isWithin}
-use Rattle.judgement.specs.Table.{rowIn}
 use Rattle.judgement.specs.Judge.{soundRefusal}
 use Rattle.judgement.specs.Examples.{kindsBelow, Columns, StepColumn, Fields, Cards, Order, Turns, Addresses}
 
 pub columns : Columns
-unfolding rowIn kindsBelow
-columns = record { speaker = refl; address = refl; datum = refl; free = refl; arbitration = refl; granted = refl; transferOne = refl; owned = refl; transferTwo = refl }
+unfolding beside hasBeside kindsBelow
+columns = record {
+  kinds = refl;
+  speaker = refl;
+  address = refl;
+  datum = refl;
+  bytes = refl;
+  wide = refl;
+  cycles = refl;
+  free = refl;
+  arbitration = refl;
+  granted = refl;
+  transferOne = refl;
+  owned = refl;
+  transferTwo = refl;
+}
 
 pub fields : Fields
-unfolding rowIn firstOf soundRefusal allBelow someCard isWithin
+unfolding beside hasBeside firstOf soundRefusal allBelow someCard isWithin
 fields = record {
   kindZero = refl;
-  kindPastReset = refl;
+  kindPastLast = refl;
   speakerAbove = refl;
   straySpeaker = refl;
   strayAddress = refl;
@@ -35,15 +49,26 @@ fields = record {
 }
 
 pub cards : Cards
-unfolding rowIn firstOf soundRefusal allBelow someCard isWithin
-cards = record { request = refl; nobody = refl; unfitted = refl; look = refl; cycle = refl; giveBack = refl; lastCard = refl; master = refl; masterLooks = refl; masterLooksThen = refl }
+unfolding beside hasBeside firstOf soundRefusal allBelow someCard isWithin
+cards = record {
+  request = refl;
+  nobody = refl;
+  unfitted = refl;
+  look = refl;
+  cycle = refl;
+  giveBack = refl;
+  lastCard = refl;
+  master = refl;
+  masterLooks = refl;
+  masterLooksThen = refl;
+}
 
 pub step-column : StepColumn
-unfolding rowIn
+unfolding beside
 step-column = record { asking = refl; cycles = refl; ending = refl }
 
 pub order : Order
-unfolding rowIn firstOf soundRefusal allBelow orBelow look everyContender shown looked settled someCard isWithin
+unfolding beside hasBeside firstOf soundRefusal allBelow orBelow look everyContender shown looked settled someCard isWithin
 order = record {
   strayNobody = refl;
   strayUnfitted = refl;
@@ -57,7 +82,7 @@ order = record {
 }
 
 pub turns : Turns
-unfolding rowIn firstOf soundRefusal allBelow orBelow look everyContender shown looked settled someCard isWithin
+unfolding beside hasBeside firstOf soundRefusal allBelow orBelow look everyContender shown looked settled someCard isWithin
 turns = record {
   lookWhenFree = refl;
   look = refl;
@@ -84,7 +109,7 @@ turns = record {
 }
 
 pub addresses : Addresses
-unfolding rowIn firstOf soundRefusal allBelow someCard isWithin
+unfolding beside hasBeside firstOf soundRefusal allBelow someCard isWithin
 addresses = record {
   oddWord = refl;
   oddByte = refl;
@@ -94,6 +119,7 @@ addresses = record {
   absent = refl;
   absentWord = refl;
   absentFetch = refl;
+  absentByteWrite = refl;
   absentWrite = refl;
   beyond = refl;
   lastPort = refl;

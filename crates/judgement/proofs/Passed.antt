@@ -1,14 +1,17 @@
 -- What an accepted event has passed, and that one which passes everything is accepted.
-use Prim.Native.Nat.{ℕ}
-use mathlib.Core.Path.{_≡_, refl, sym, _∙_}
-use mathlib.Core.Bool.{Bool, true, false, and-eq-true-iff}
+use Prim.Native.Nat.{ℕ, _/_, _<_}
+use mathlib.Core.Path.{_≡_, refl, sym, ap, _∙_}
+use mathlib.Core.Logic.{⊎-elim}
+use mathlib.Core.Bool.{Bool, true, false, _||_, and-eq-true-iff}
 use mathlib.Core.List.{List}
-use lib.Dec.{eqb}
-use lib.ListN.{length}
-use borrow.Author.Tests.{eqb-true, eq-eqb, not-false}
+use native.Mathlib.Omega.{arith}
+use lib.Dec.{eqb, ltb}
+use lib.ListN.{length, getD}
+use borrow.Author.Tests.{eqb-true, eq-eqb, ne-eqb, le-leb, not-false}
 use Rattle.words.specs.First.{firstOf}
+use Rattle.words.proofs.TestLaws.{true-or-false}
 use Rattle.words.proofs.FirstLaws.{first-none}
-use Rattle.bus.specs.Settle.{isSenseless}
+use Rattle.bus.specs.Sense.{isSenseless}
 use Rattle.bus.specs.declared.state.Bus.{Bus}
 use Rattle.judgement.specs.Refusals.{
   hasWrongBuffers,
@@ -21,10 +24,12 @@ use Rattle.judgement.specs.Refusals.{
   isOddWord,
   isAbsent,
 }
-use Rattle.judgement.specs.Judge.{soundRefusal, refusalOf, numberOf, verdictOn, soundVerdict}
-use Rattle.judgement.specs.Promises.{VerdictNumber, VerdictStep, LengthsAsked}
+use Rattle.judgement.specs.Table.{rowOf}
+use Rattle.judgement.specs.Judge.{soundRefusal, refusalOf, numberGiven, verdictOn, soundVerdict}
+use Rattle.judgement.specs.Promises.{VerdictNumber, VerdictStep, LengthsAsked, MemoryAbsent, PortAbsent}
 use Rattle.judgement.specs.declared.event.Event.{Event}
-use Rattle.judgement.proofs.TableLaws.{steps-of-table}
+use Rattle.bus.specs.declared.step.Step.{Step}
+use Rattle.judgement.specs.declared.verdict.Verdict.the-variants.{Refused, Takes}
 
 module _ (bus : Bus) (event : Event) where
   -- no reason of a sound call applies
@@ -82,17 +87,33 @@ module _ (bus : Bus) (event : Event) where
 
 pub verdict-number : VerdictNumber
 unfolding soundVerdict
-verdict-number bus event = go (eqb (soundRefusal bus event) 0) refl
+verdict-number bus event = go (soundRefusal bus event)
   where
-    go : (b : Bool) → eqb (soundRefusal bus event) 0 ≡ b → numberOf (verdictOn (soundRefusal bus event) event) ≡ soundRefusal bus event
-    go true e =
-        let none = eqb-true (soundRefusal bus event) 0 e in
-        rw e (steps-of-table (event .kind) (bus .phase) (not-false _ (passed bus event none .phase)) ∙ sym none)
-    go false e = rw e
+    go : (number : ℕ) → numberGiven (verdictOn number event) ≡ number
+    go number = ⊎-elim (λ none. rw none (sym (eqb-true number 0 none))) (λ some. rw some) (true-or-false (eqb number 0))
 
 pub verdict-step : VerdictStep
 unfolding soundVerdict
 verdict-step bus event e = rw e
+
+-- the other way round: what a refusal says, and what a step
+pub refused-says : (bus : Bus) (event : Event) (number : ℕ) → Refused number ≡ soundVerdict bus event
+    → (soundRefusal bus event ≡ number) × (number ≡ 0 → ⊥)
+refused-says bus event number e =
+    let given : soundRefusal bus event ≡ number = sym (verdict-number bus event) ∙ ap numberGiven (sym e) in (
+      given,
+      λ none.
+          let step : Refused number ≡ Takes (rowOf (event .kind) .step) = e ∙ verdict-step bus event (given ∙ none) in
+          let never : _≡_ {A = ℕ} 0 1 = cc in
+          omega arith,
+    )
+
+pub taken-says : (bus : Bus) (event : Event) (step : Step) → Takes step ≡ soundVerdict bus event
+    → (soundRefusal bus event ≡ 0) × (step ≡ rowOf (event .kind) .step)
+taken-says bus event step e =
+    let none : soundRefusal bus event ≡ 0 = sym (verdict-number bus event) ∙ ap numberGiven (sym e) in
+    let same : Takes step ≡ Takes (rowOf (event .kind) .step) = e ∙ verdict-step bus event none in
+    (none, cc)
 
 -- ---- The lengths
 
@@ -103,3 +124,18 @@ lengths-asked memory ports = (
       (eqb-true (length memory) 0x10000 (both .0), eqb-true (length ports) 0x100 (both .1)),
   λ sizes. rw (eq-eqb (length memory) 0x10000 (sizes .0), eq-eqb (length ports) 0x100 (sizes .1)),
 )
+
+-- ---- Where nothing answers
+
+or-nothing : (b : Bool) → (b || false) ≡ b
+or-nothing true = refl
+or-nothing false = refl
+
+pub memory-absent : MemoryAbsent
+memory-absent pages event low high =
+    let no : (k : ℕ) → 0x0A < k → eqb (event .kind) k ≡ false = λ k above. ne-eqb (event .kind) k (λ e. omega (arith, high, above, e)) in
+    rw (le-leb 0x06 (event .kind) low, le-leb (event .kind) 0x0A high, no 0x0B (omega arith), no 0x0C (omega arith))
+    (or-nothing (ltb 0xFFFF (event .address) || eqb (getD pages (event .address / 0x1000) 0) 0))
+
+pub port-absent : PortAbsent
+port-absent pages event = ⊎-elim (λ e. rw e refl) (λ e. rw e refl)

@@ -1,161 +1,100 @@
--- The columns of the table, computed over all kinds that a byte can say, and the pages.
-use Prim.Native.Nat.{ℕ, suc, _/_, _<_, _≤_, zero-le}
-use mathlib.Core.Path.{_≡_, refl, sym, subst}
-use mathlib.Core.Logic.{⊎-elim}
-use mathlib.Core.Bool.{Bool, true, false, cond, _&&_, _||_, and-eq-true-iff, true≢false}
-use mathlib.Core.List.{List, [], _∷_}
-use native.Mathlib.Nat.{eq-or-lt-of-le}
+-- The table's rows and its columns, and the pages.
+use Prim.Native.Nat.{ℕ, _/_, _<_, _≤_}
+use mathlib.Core.Path.{_≡_, refl, sym, ap, ap₂, _∙_}
+use mathlib.Core.Bool.{Bool, true, false, not, cond, _&&_, _||_, true≢false}
+use mathlib.Core.List.{List}
 use native.Mathlib.Decide.{decLt}
 use native.Mathlib.Omega.{arith}
-use lib.Dec.{eqb, leb, lit≤}
+use lib.Dec.{eqb, leb, ltb, lit≤}
 use lib.ListN.{length, List·getD-eq-default}
-use borrow.Author.Tests.{eqb-true, ne-eqb}
+use borrow.Author.Tests.{le-leb, lt-leb, le-ltb}
 use Rattle.words.specs.Below.{allBelow}
-use Rattle.words.proofs.BelowLaws.{same-tests-below}
-use Rattle.phases.specs.Control.{allowsCycles}
-use Rattle.judgement.specs.Table.{Row, row, master, table, rowOf, rowIn, noRow, listsSpeaker, listsAddress, listsDatum}
+use Rattle.words.specs.Among.{beside, hasBeside, everyRow}
+use Rattle.words.proofs.BelowLaws.{same-below, same-tests-below}
+use Rattle.words.proofs.RowLaws.{EachRow, end, _and_, by-rows, rows-pass, no-row-beside, rows-only}
+use Rattle.phases.specs.Phase as Phase
+use Rattle.phases.specs.Kind as Kind
+use Rattle.judgement.specs.Table.{Row, row, master, table, hasRow, rowOf, noRow, listsSpeaker, listsAddress, mostDatum, isCycleStep, isCycle}
 use Rattle.judgement.specs.Refusals.{pageAt}
-use Rattle.judgement.specs.Judge.{numberOf}
-use Rattle.judgement.specs.Promises.{EachKindHasItsRow}
-use Rattle.judgement.specs.declared.verdict.Verdict.the-variants.{Cycle}
+use Rattle.judgement.specs.Promises.{EachKindHasItsRow, CycleKinds}
+use Rattle.bus.specs.declared.step.Step.{Step}
 
-pub speaker-column : (kind : ℕ) → kind < 256 → (eqb kind 0x02 || leb 0x04 kind && leb kind 0x0E) ≡ listsSpeaker kind
-unfolding allBelow rowIn
-speaker-column = same-tests-below (λ k. eqb k 0x02 || leb 0x04 k && leb k 0x0E) listsSpeaker 256 refl
+-- ---- Rows
 
-pub address-column : (kind : ℕ) → kind < 256 → (leb 0x06 kind && leb kind 0x0C) ≡ listsAddress kind
-unfolding allBelow rowIn
-address-column = same-tests-below (λ k. leb 0x06 k && leb k 0x0C) listsAddress 256 refl
+-- what holds of each row, and of a kind that has none, holds of every kind
+pub by-row : (P : ℕ → Row → Type 0) → EachRow P table → (kind : ℕ) → (hasRow kind ≡ false → P kind noRow) → P kind (rowOf kind)
+by-row P = by-rows P table noRow
 
-pub datum-column : (kind : ℕ) → kind < 256 → (eqb kind 0x01 || eqb kind 0x08 || eqb kind 0x0A || eqb kind 0x0C) ≡ listsDatum kind
-unfolding allBelow rowIn
-datum-column = same-tests-below (λ k. eqb k 0x01 || eqb k 0x08 || eqb k 0x0A || eqb k 0x0C) listsDatum 256 refl
+-- the same of a test
+pub row-passes : (test : ℕ → Row → Bool) → everyRow test table ≡ true → (kind : ℕ) → (hasRow kind ≡ false → test kind noRow ≡ true)
+    → test kind (rowOf kind) ≡ true
+row-passes test = rows-pass test table noRow
+
+pub no-row : (kind : ℕ) → hasRow kind ≡ false → rowOf kind ≡ noRow
+no-row kind = no-row-beside kind table noRow
+
+-- the row of a cycle
+pub record CycleRow (row : Row) : Type 0 where
+  pub speaker : row .speaker ≡ master
+  pub allows : row .allows ≡ Phase.hasCycles
+  pub step : row .step ≡ Step.Cycle
+
+pub cycle-row : (kind : ℕ) → isCycle kind ≡ true → CycleRow (rowOf kind)
+cycle-row kind =
+    by-row (λ k r. isCycleStep (r .step) ≡ true → CycleRow r)
+    (other and other and other and other and other and same and same and same and same and same and same and same
+    and other and other and other and end)
+    kind
+    (λ none. other)
+  where
+    same : {address : Bool} {most : ℕ} → true ≡ true → CycleRow (row master address most Phase.hasCycles Step.Cycle)
+    same e = record { speaker = refl; allows = refl; step = refl }
+
+    other : {A : Type 0} → false ≡ true → A
+    other e = absurd (true≢false (sym e))
+
+-- ---- The kinds by their numbers
+
+-- a kind from the one to the other
+abbrev isBetween : ℕ → ℕ → ℕ → Bool
+isBetween low high kind = leb low kind && leb kind high
+
+-- a test that no kind without a row passes is computed over all that a byte can say, and no more has a row
+between : (test : ℕ → Bool) (low high : ℕ) → low ≤ 0x100 → high < 0x100
+    → allBelow (λ k. cond (test k) (isBetween low high k) (not (isBetween low high k))) 0x100 ≡ true
+    → ((k : ℕ) → hasRow k ≡ false → test k ≡ false) → (kind : ℕ) → test kind ≡ isBetween low high kind
+unfolding everyRow
+between test low high l h computed none kind = go (decLt kind 0x100)
+  where
+    go : Dec (kind < 0x100) → test kind ≡ isBetween low high kind
+    go (yes below) = same-tests-below test (isBetween low high) 0x100 computed kind below
+    go (no beyond) =
+        none kind (rows-only (λ k. ltb k 0x100) table refl kind (le-ltb kind 0x100 (omega (arith, beyond))))
+        ∙ sym (rw (le-leb low kind (omega (arith, beyond, l)), lt-leb kind high (omega (arith, beyond, h))))
+
+pub each-kind-has-its-row : EachKindHasItsRow
+unfolding allBelow hasBeside
+each-kind-has-its-row = between hasRow Kind.request Kind.last (lit≤ tt) (lit≤ tt) refl (λ k none. none)
+
+pub cycle-kinds : CycleKinds
+unfolding allBelow beside
+cycle-kinds = between isCycle Kind.byteRead Kind.output (lit≤ tt) (lit≤ tt) refl (λ k none. ap (λ (r : Row). isCycleStep (r .step)) (no-row k none))
+
+-- ---- The columns, computed over all kinds that a byte can say
+
+pub speaker-column : (kind : ℕ) → kind < 0x100
+    → (eqb kind Kind.look || leb Kind.beginTransferOne kind && leb kind Kind.giveBack) ≡ listsSpeaker kind
+unfolding allBelow beside
+speaker-column = same-tests-below (λ k. eqb k Kind.look || leb Kind.beginTransferOne k && leb k Kind.giveBack) listsSpeaker 0x100 refl
+
+pub address-column : (kind : ℕ) → kind < 0x100 → (leb Kind.byteRead kind && leb kind Kind.output) ≡ listsAddress kind
+unfolding allBelow beside
+address-column = same-tests-below (λ k. leb Kind.byteRead k && leb k Kind.output) listsAddress 0x100 refl
+
+-- ---- Pages
 
 -- beyond the sixteen pages there is none
 pub no-page : (pages : List ℕ) → length pages ≡ 16 → (address : ℕ) → 0xFFFF < address → 0 ≡ pageAt pages address
 no-page pages size address h =
     let beyond : length pages ≤ address / 0x1000 = omega (arith, size) in
     sym (List·getD-eq-default pages 0 beyond)
-
--- ---- Rows
-
--- a kind beyond the table's last has no row
-pub no-row : (kind : ℕ) → 0x0F < kind → rowOf kind ≡ noRow
-unfolding rowIn
-no-row kind h =
-    rw (
-      other 0x01 (lit≤ tt),
-      other 0x02 (lit≤ tt),
-      other 0x03 (lit≤ tt),
-      other 0x04 (lit≤ tt),
-      other 0x05 (lit≤ tt),
-      other 0x06 (lit≤ tt),
-      other 0x07 (lit≤ tt),
-      other 0x08 (lit≤ tt),
-      other 0x09 (lit≤ tt),
-      other 0x0A (lit≤ tt),
-      other 0x0B (lit≤ tt),
-      other 0x0C (lit≤ tt),
-      other 0x0D (lit≤ tt),
-      other 0x0E (lit≤ tt),
-      other 0x0F (lit≤ tt),
-    )
-  where
-    other : (k : ℕ) → k ≤ 0x0F → eqb kind k ≡ false
-    other k l = ne-eqb kind k (λ e. omega (arith, e))
-
-pub no-row-zero : (kind : ℕ) → kind < 0x01 → rowOf kind ≡ noRow
-unfolding rowIn
-no-row-zero kind h = let none : kind ≡ 0 = omega arith in rw none
-
--- none of the first five, as a match says it
-abbrev pub NoneOfFive : ℕ → Type 0
-NoneOfFive kind =
-    ((((Unit × (kind ≡ 0x01 → ⊥)) × (kind ≡ 0x02 → ⊥)) × (kind ≡ 0x03 → ⊥)) × (kind ≡ 0x04 → ⊥)) × (kind ≡ 0x05 → ⊥)
-
--- such a kind is past them
-pub past-five : (kind : ℕ) → 0x01 ≤ kind → NoneOfFive kind → 0x06 ≤ kind
-past-five kind h (((((u, n1), n2), n3), n4), n5) = past n5 (past n4 (past n3 (past n2 (past n1 h))))
-  where
-    past : {k : ℕ} → (kind ≡ k → ⊥) → k ≤ kind → suc k ≤ kind
-    past other l = ⊎-elim (λ e. absurd (other (sym e))) (λ m. m) (eq-or-lt-of-le l)
-
--- what holds of a number, and of those above it, holds of those from it on
-from-on : (P : ℕ → Type 0) (n k : ℕ) → P k → (k < n → P n) → k ≤ n → P n
-from-on P n k here above l = ⊎-elim (λ e. subst P e here) above (eq-or-lt-of-le l)
-
--- what holds of the seven kinds of cycles holds of a kind that is one
-pub each-cycle : (P : ℕ → Type 0) → P 0x06 → P 0x07 → P 0x08 → P 0x09 → P 0x0A → P 0x0B → P 0x0C → (kind : ℕ) → 0x06 ≤ kind → kind ≤ 0x0C → P kind
-each-cycle P p6 p7 p8 p9 pA pB pC kind low high =
-    on 0x06 p6 (on 0x07 p7 (on 0x08 p8 (on 0x09 p9 (on 0x0A pA (on 0x0B pB (on 0x0C pC (λ l. absurd (omega (arith, l))))))))) low
-  where
-    on : (k : ℕ) → P k → (k < kind → P kind) → k ≤ kind → P kind
-    on = from-on P kind
-
--- and what holds of all kinds, and of every other number, holds of any
-pub each-kind : (P : ℕ → Type 0) → P 0x00 → P 0x01 → P 0x02 → P 0x03 → P 0x04 → P 0x05 → ((kind : ℕ) → 0x06 ≤ kind → kind ≤ 0x0C → P kind) → P 0x0D → P 0x0E → P 0x0F
-    → ((kind : ℕ) → 0x0F < kind → P kind) → (kind : ℕ) → P kind
-each-kind P p0 p1 p2 p3 p4 p5 cycle pD pE pF other kind =
-    on 0x00 p0 (on 0x01 p1 (on 0x02 p2 (on 0x03 p3 (on 0x04 p4 (on 0x05 p5 cycles))))) zero-le
-  where
-    on : (k : ℕ) → P k → (k < kind → P kind) → k ≤ kind → P kind
-    on = from-on P kind
-
-    later : 0x0D ≤ kind → P kind
-    later = on 0x0D pD (on 0x0E pE (on 0x0F pF (other kind)))
-
-    cycles : 0x05 < kind → P kind
-    cycles l = go (decLt 0x0C kind)
-      where
-        go : Dec (0x0C < kind) → P kind
-        go (yes h) = later h
-        go (no h) = cycle kind l (omega (arith, h))
-
--- the row of a cycle
-pub record CycleRow (row : Row) : Type 0 where
-  pub speaker : row .speaker ≡ master
-  pub step : row .step ≡ Cycle
-  pub allows : row .allows ≡ allowsCycles
-
-pub cycle-row : (kind : ℕ) → 0x06 ≤ kind → kind ≤ 0x0C → CycleRow (rowOf kind)
-unfolding rowIn
-cycle-row = each-cycle (λ k. CycleRow (rowOf k)) same same same same same same same
-  where
-    same : {s d : Bool} {k : ℕ} → CycleRow (row k master s d allowsCycles Cycle)
-    same = record { speaker = refl; step = refl; allows = refl }
-
-pub each-kind-has-its-row : EachKindHasItsRow
-unfolding rowIn
-each-kind-has-its-row =
-    each-kind (λ k. 0x01 ≤ k → k ≤ 0x0F → rowOf k .kind ≡ k) (λ low high. absurd (omega (arith, low))) (λ low high. refl) (λ low high. refl) (λ low high. refl)
-    (λ low high. refl)
-    (λ low high. refl)
-    (each-cycle (λ k. 0x01 ≤ k → k ≤ 0x0F → rowOf k .kind ≡ k) (λ low high. refl) (λ low high. refl) (λ low high. refl) (λ low high. refl) (λ low high. refl) (λ low high. refl)
-    (λ low high. refl))
-    (λ low high. refl)
-    (λ low high. refl)
-    (λ low high. refl)
-    (λ k above low high. absurd (omega (arith, above, high)))
-
--- each row of these names a step
-unfoldable allSteps : List Row → Bool
-allSteps [] = true
-allSteps (r ∷ rows) = eqb (numberOf (r .step)) 0 && allSteps rows
-
--- a row whose phase is right has a step, and no refusal
-steps-only : (rows : List Row) → allSteps rows ≡ true → (kind phase : ℕ) → rowIn rows kind .allows phase ≡ true → numberOf (rowIn rows kind .step) ≡ 0
-unfolding rowIn allSteps
-steps-only [] e kind phase a = absurd (true≢false (sym a))
-steps-only (r ∷ rows) e kind phase a = go (eqb kind (r .kind)) (steps-only rows (each .1) kind phase) a
-  where
-    each : (eqb (numberOf (r .step)) 0 ≡ true) × (allSteps rows ≡ true)
-    each = and-eq-true-iff (eqb (numberOf (r .step)) 0) (allSteps rows) .0 e
-
-    go : (b : Bool) → (rowIn rows kind .allows phase ≡ true → numberOf (rowIn rows kind .step) ≡ 0)
-        → cond b r (rowIn rows kind) .allows phase ≡ true → numberOf (cond b r (rowIn rows kind) .step) ≡ 0
-    go true later t = eqb-true _ _ (each .0)
-    go false later t = later t
-
-pub steps-of-table : (kind phase : ℕ) → rowOf kind .allows phase ≡ true → numberOf (rowOf kind .step) ≡ 0
-unfolding allSteps
-steps-of-table = steps-only table refl

@@ -3,22 +3,14 @@ use Prim.Native.Nat.{ℕ, zero, suc}
 use mathlib.Core.Path.{_≡_}
 use mathlib.Core.Bool.{Bool, cond}
 use mathlib.Core.List.{List, [], _∷_}
+use lib.Dec.{eqb, ltb}
 use lib.ListN.{replicate, set}
 use Rattle.phases.specs.Phase as Phase
-use Rattle.bus.specs.State.{freeBus, nobody, silent, stateOf}
+use Rattle.phases.specs.Kind as Kind
+use Rattle.bus.specs.State.{chassis, freeBus, nobody, silent, stateOf}
 use Rattle.bus.specs.declared.state.Bus.{Bus}
-use Rattle.judgement.specs.declared.verdict.Verdict.the-variants.{
-  Request,
-  Look,
-  Acknowledge,
-  BeginTransferOne,
-  TakeBus,
-  Cycle,
-  BeginTransferTwo,
-  GiveBack,
-  Reset,
-}
-use Rattle.judgement.specs.Table.{eventOf, rowOf, listsSpeaker, listsAddress, listsDatum}
+use Rattle.bus.specs.declared.step.Step.{Step}
+use Rattle.judgement.specs.Table.{eventOf, hasRow, rowOf, listsSpeaker, listsAddress, mostDatum, isCycle}
 use Rattle.judgement.specs.Judge.{soundRefusal}
 
 -- ---- Columns
@@ -29,15 +21,21 @@ kindsBelow test zero = []
 kindsBelow test (suc k) = cond (test k) (k ∷ kindsBelow test k) (kindsBelow test k)
 
 abbrev pub kindsOf : (ℕ → Bool) → List ℕ
-kindsOf test = kindsBelow test 0x11
+kindsOf test = kindsBelow test (suc (suc Kind.last))
 
 pub record Columns : Type 0 where
+  pub kinds : kindsOf hasRow ≡ 0x0F ∷ 0x0E ∷ 0x0D ∷ 0x0C ∷ 0x0B ∷ 0x0A ∷ 0x09 ∷ 0x08 ∷ 0x07 ∷ 0x06 ∷ 0x05 ∷ 0x04 ∷ 0x03 ∷ 0x02 ∷ 0x01 ∷ []
   pub speaker : kindsOf listsSpeaker ≡ 0x0E ∷ 0x0D ∷ 0x0C ∷ 0x0B ∷ 0x0A ∷ 0x09 ∷ 0x08 ∷ 0x07 ∷ 0x06 ∷ 0x05 ∷ 0x04 ∷ 0x02 ∷ []
   pub address : kindsOf listsAddress ≡ 0x0C ∷ 0x0B ∷ 0x0A ∷ 0x09 ∷ 0x08 ∷ 0x07 ∷ 0x06 ∷ []
-  pub datum : kindsOf listsDatum ≡ 0x0C ∷ 0x0A ∷ 0x08 ∷ 0x01 ∷ []
+  pub datum : kindsOf (λ k. ltb 0 (mostDatum k)) ≡ 0x0C ∷ 0x0A ∷ 0x08 ∷ 0x01 ∷ []
+  -- of those with a datum, the kinds that take at most a byte, and those that take any sixteen bits
+  pub bytes : kindsOf (λ k. eqb (mostDatum k) 0xFF) ≡ 0x0C ∷ 0x08 ∷ []
+  pub wide : kindsOf (λ k. eqb (mostDatum k) 0xFFFF) ≡ 0x0A ∷ 0x01 ∷ []
+  pub cycles : kindsOf isCycle ≡ 0x0C ∷ 0x0B ∷ 0x0A ∷ 0x09 ∷ 0x08 ∷ 0x07 ∷ 0x06 ∷ []
   -- the kinds that each phase allows
   pub free : kindsOf (λ k. rowOf k .allows Phase.free) ≡ 0x0F ∷ 0x0C ∷ 0x0B ∷ 0x0A ∷ 0x09 ∷ 0x08 ∷ 0x07 ∷ 0x06 ∷ 0x01 ∷ []
-  pub arbitration : kindsOf (λ k. rowOf k .allows Phase.arbitration) ≡ 0x0F ∷ 0x0C ∷ 0x0B ∷ 0x0A ∷ 0x09 ∷ 0x08 ∷ 0x07 ∷ 0x06 ∷ 0x03 ∷ 0x02 ∷ []
+  pub arbitration : kindsOf (λ k. rowOf k .allows Phase.arbitration)
+      ≡ 0x0F ∷ 0x0C ∷ 0x0B ∷ 0x0A ∷ 0x09 ∷ 0x08 ∷ 0x07 ∷ 0x06 ∷ 0x03 ∷ 0x02 ∷ []
   pub granted : kindsOf (λ k. rowOf k .allows Phase.granted) ≡ 0x0F ∷ 0x04 ∷ []
   pub transferOne : kindsOf (λ k. rowOf k .allows Phase.transferOne) ≡ 0x0F ∷ 0x05 ∷ []
   pub owned : kindsOf (λ k. rowOf k .allows Phase.owned) ≡ 0x0F ∷ 0x0D ∷ 0x0C ∷ 0x0B ∷ 0x0A ∷ 0x09 ∷ 0x08 ∷ 0x07 ∷ 0x06 ∷ []
@@ -46,10 +44,10 @@ pub record Columns : Type 0 where
 -- the step of each kind
 pub record StepColumn : Type 0 where
   pub asking : rowOf 0x01 .step ∷ rowOf 0x02 .step ∷ rowOf 0x03 .step ∷ rowOf 0x04 .step ∷ rowOf 0x05 .step ∷ []
-      ≡ Request ∷ Look ∷ Acknowledge ∷ BeginTransferOne ∷ TakeBus ∷ []
+      ≡ Step.Request ∷ Step.Look ∷ Step.Acknowledge ∷ Step.BeginTransferOne ∷ Step.TakeBus ∷ []
   pub cycles : rowOf 0x06 .step ∷ rowOf 0x07 .step ∷ rowOf 0x08 .step ∷ rowOf 0x09 .step ∷ rowOf 0x0A .step ∷ rowOf 0x0B .step ∷ rowOf 0x0C .step ∷ []
-      ≡ replicate 7 Cycle
-  pub ending : rowOf 0x0D .step ∷ rowOf 0x0E .step ∷ rowOf 0x0F .step ∷ [] ≡ BeginTransferTwo ∷ GiveBack ∷ Reset ∷ []
+      ≡ replicate 7 Step.Cycle
+  pub ending : rowOf 0x0D .step ∷ rowOf 0x0E .step ∷ rowOf 0x0F .step ∷ [] ≡ Step.BeginTransferTwo ∷ Step.GiveBack ∷ Step.Reset ∷ []
 
 -- ---- States: cards 1 and 3 fitted; page 0 has eight bits, page 1 sixteen, and there are no others
 
@@ -57,7 +55,7 @@ abbrev pub codes : List ℕ
 codes = 1 ∷ 2 ∷ replicate 14 0
 
 abbrev pub free : Bus
-free = freeBus 0x000A codes
+free = freeBus (chassis 0x000A codes)
 
 -- both contend, and the lines show 3, card 3's number; card 1 has yet to take back its 1
 abbrev pub unsettled : Bus
@@ -85,7 +83,7 @@ judged bus kind speaker address datum = soundRefusal bus (eventOf kind speaker a
 
 pub record Fields : Type 0 where
   pub kindZero : judged free 0x00 0 0 0 ≡ 0x03
-  pub kindPastReset : judged free 0x10 0 0 0 ≡ 0x03
+  pub kindPastLast : judged free (suc Kind.last) 0 0 0 ≡ 0x03
   pub speakerAbove : judged free 0x06 0x11 0 0 ≡ 0x03
   pub straySpeaker : judged free 0x01 0x10 0 0x0002 ≡ 0x03
   pub strayAddress : judged free 0x01 0 1 0x0002 ≡ 0x03
@@ -166,6 +164,7 @@ pub record Addresses : Type 0 where
   pub absent : judged free 0x06 0x10 0x002000 0 ≡ 0x0A
   pub absentWord : judged free 0x09 0x10 0x00FFFE 0 ≡ 0x0A
   pub absentFetch : judged free 0x07 0x10 0x002000 0 ≡ 0x0A
+  pub absentByteWrite : judged free 0x08 0x10 0x002000 0x0012 ≡ 0x0A
   pub absentWrite : judged free 0x0A 0x10 0x002000 0x1234 ≡ 0x0A
   pub beyond : judged free 0x08 0x10 0x010000 0x0012 ≡ 0x0A
   pub lastPort : judged free 0x0B 0x10 0x0000FF 0 ≡ 0x00

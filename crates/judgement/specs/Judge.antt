@@ -5,7 +5,7 @@ use mathlib.Core.List.{List, [], _∷_}
 use lib.Dec.{eqb}
 use Rattle.words.specs.First.{Reason, reason, firstOf}
 use Rattle.bus.specs.Refusal as Refusal
-use Rattle.bus.specs.Settle.{isSenseless}
+use Rattle.bus.specs.Sense.{isSenseless}
 use Rattle.bus.specs.declared.state.Bus.{Bus}
 use Rattle.judgement.specs.Table.{rowOf}
 use Rattle.judgement.specs.Refusals.{
@@ -21,20 +21,9 @@ use Rattle.judgement.specs.Refusals.{
 }
 use Rattle.judgement.specs.declared.event.Event.{Event}
 use Rattle.judgement.specs.declared.verdict.Verdict.{Verdict}
-use Rattle.judgement.specs.declared.verdict.Verdict.the-variants.{
-  Refused,
-  Request,
-  Look,
-  Acknowledge,
-  BeginTransferOne,
-  TakeBus,
-  Cycle,
-  BeginTransferTwo,
-  GiveBack,
-  Reset,
-}
+use Rattle.judgement.specs.declared.verdict.Verdict.the-variants.{Refused, Takes}
 
--- 06 to 0A
+-- from 06 on
 abbrev pub turnReasons : Bus → Event → List Reason
 turnReasons bus event =
     reason Refusal.wrongPhase (isWrongPhase bus event)
@@ -48,11 +37,11 @@ turnReasons bus event =
 abbrev pub soundReasons : Bus → Event → List Reason
 soundReasons bus event =
     reason Refusal.malformed (isMalformed event)
-    ∷ reason Refusal.namesNobody (namesNobody event)
+    ∷ reason Refusal.nobodyNamed (namesNobody event)
     ∷ reason Refusal.notFitted (namesUnfitted (bus .fitted) event)
     ∷ turnReasons bus event
 
--- all ten
+-- all of them
 abbrev pub reasonsAgainst : List ℕ → List ℕ → Bus → Event → List Reason
 reasonsAgainst memory ports bus event =
     reason Refusal.wrongBuffers (hasWrongBuffers memory ports)
@@ -68,21 +57,13 @@ refusalOf memory ports bus event = firstOf (reasonsAgainst memory ports bus even
 -- ---- The verdict
 
 -- the number that is answered
-abbrev pub numberOf : Verdict → ℕ
-numberOf (Refused number) = number
-numberOf Request = Refusal.accepted
-numberOf Look = Refusal.accepted
-numberOf Acknowledge = Refusal.accepted
-numberOf BeginTransferOne = Refusal.accepted
-numberOf TakeBus = Refusal.accepted
-numberOf Cycle = Refusal.accepted
-numberOf BeginTransferTwo = Refusal.accepted
-numberOf GiveBack = Refusal.accepted
-numberOf Reset = Refusal.accepted
+abbrev pub numberGiven : Verdict → ℕ
+numberGiven (Refused number) = number
+numberGiven (Takes step) = Refusal.accepted
 
 -- the refusal, or the kind's step where the number says that there is none
 abbrev pub verdictOn : ℕ → Event → Verdict
-verdictOn number event = cond (eqb number Refusal.accepted) (rowOf (event .kind) .step) (Refused number)
+verdictOn number event = cond (eqb number Refusal.accepted) (Takes (rowOf (event .kind) .step)) (Refused number)
 
 unfoldable pub soundVerdict : Bus → Event → Verdict
 soundVerdict bus event = verdictOn (soundRefusal bus event) event

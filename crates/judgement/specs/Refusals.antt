@@ -8,30 +8,29 @@ use Rattle.phases.specs.Kind as Kind
 use Rattle.cards.specs.Cards.{cardIn, someCard, isWithin}
 use Rattle.bus.specs.State.{isSettled}
 use Rattle.bus.specs.declared.state.Bus.{Bus}
-use Rattle.judgement.specs.Table.{permanentMaster, hasTurn, rowOf, listsSpeaker, listsAddress, listsDatum}
+use Rattle.judgement.specs.Table.{permanentMaster, hasTurn, hasRow, rowOf, listsSpeaker, listsAddress, mostDatum}
 use Rattle.judgement.specs.declared.event.Event.{Event}
 
 -- 01: a buffer has another length than its own, 10000h for memory and 100h for ports
 abbrev pub hasWrongBuffers : List ℕ → List ℕ → Bool
 hasWrongBuffers memory ports = not (eqb (length memory) 0x10000 && eqb (length ports) 0x100)
 
--- 02: a senseless state; the test is bus Settle.isSenseless, since settle asks it too.
+-- 02: a senseless state; the test is bus Sense.isSenseless, since settle asks it too.
 
--- a field that the kind doesn't list isn't zero
+-- a speaker or an address that the kind doesn't list isn't zero
 abbrev pub hasStrayField : Event → Bool
 hasStrayField event =
     not (listsSpeaker (event .kind)) && not (eqb (event .speaker) 0)
     || not (listsAddress (event .kind)) && not (eqb (event .address) 0)
-    || not (listsDatum (event .kind)) && not (eqb (event .datum) 0)
 
--- a byte write or an output with more than a byte
+-- a datum beyond what the kind lists: anything but zero, where it lists none, and more than a byte for a byte write or an output
 abbrev pub isTooWide : Event → Bool
-isTooWide event = (eqb (event .kind) Kind.byteWrite || eqb (event .kind) Kind.output) && ltb 0xFF (event .datum)
+isTooWide event = ltb (mostDatum (event .kind)) (event .datum)
 
 -- 03: no such kind, no such speaker, or one of the two above
 abbrev pub isMalformed : Event → Bool
 isMalformed event =
-    not (leb Kind.request (event .kind) && leb (event .kind) Kind.reset)
+    not (hasRow (event .kind))
     || ltb permanentMaster (event .speaker)
     || hasStrayField event
     || isTooWide event

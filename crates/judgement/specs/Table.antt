@@ -3,26 +3,13 @@ use Prim.Native.Nat.{ℕ}
 use mathlib.Core.Bool.{Bool, true, false, cond}
 use mathlib.Core.List.{List, [], _∷_}
 use lib.Dec.{eqb}
+use Rattle.words.specs.Among.{beside, hasBeside}
 use Rattle.phases.specs.Phase as Phase
 use Rattle.phases.specs.Kind as Kind
-use Rattle.phases.specs.Control.{allowsCycles}
-use Rattle.bus.specs.Refusal as Refusal
 use Rattle.cards.specs.Cards.{cardIn}
 use Rattle.bus.specs.declared.state.Bus.{Bus}
+use Rattle.bus.specs.declared.step.Step.{Step}
 use Rattle.judgement.specs.declared.event.Event.{Event}
-use Rattle.judgement.specs.declared.verdict.Verdict.{Verdict}
-use Rattle.judgement.specs.declared.verdict.Verdict.the-variants.{
-  Refused,
-  Request,
-  Look,
-  Acknowledge,
-  BeginTransferOne,
-  TakeBus,
-  Cycle,
-  BeginTransferTwo,
-  GiveBack,
-  Reset,
-}
 
 -- an event, field by field
 abbrev pub eventOf : ℕ → ℕ → ℕ → ℕ → Event
@@ -60,7 +47,24 @@ isListed contender = true
 isListed grantedCard = true
 isListed master = true
 
--- the phase column, as a test
+-- the address: listed, or to be zero
+abbrev pub listed : Bool
+listed = true
+
+abbrev pub blank : Bool
+blank = false
+
+-- the datum, by the most that it may be: zero where it isn't listed
+abbrev pub noDatum : ℕ
+noDatum = 0
+
+abbrev pub oneByte : ℕ
+oneByte = 0xFF
+
+abbrev pub sixteenBits : ℕ
+sixteenBits = 0xFFFF
+
+-- the phases, as a test; hasCycles, of phases, is one too
 abbrev pub only : ℕ → ℕ → Bool
 only allowed phase = eqb phase allowed
 
@@ -70,57 +74,51 @@ anyPhase phase = true
 abbrev pub noPhase : ℕ → Bool
 noPhase phase = false
 
--- a field other than the speaker: listed, or to be zero
-abbrev pub listed : Bool
-listed = true
-
-abbrev pub blank : Bool
-blank = false
-
 -- ---- The table
 
+-- what an event of a kind is judged by, and its step
 pub record Row : Type 0 where
-  pub kind : ℕ
   pub speaker : Speaker
   pub address : Bool
-  pub datum : Bool
+  pub most : ℕ
   pub allows : ℕ → Bool
-  pub step : Verdict
+  pub step : Step
 
-abbrev pub row : ℕ → Speaker → Bool → Bool → (ℕ → Bool) → Verdict → Row
-row kind speaker address datum allows step =
-    record { kind = kind; speaker = speaker; address = address; datum = datum; allows = allows; step = step }
+abbrev pub row : Speaker → Bool → ℕ → (ℕ → Bool) → Step → Row
+row speaker address most allows step =
+    record { speaker = speaker; address = address; most = most; allows = allows; step = step }
 
-abbrev pub table : List Row
+abbrev pub table : List (ℕ × Row)
 table =
-    -- kind, speaker, address, datum, phase, step
-    row Kind.request unlisted blank listed (only Phase.free) Request
-    ∷ row Kind.look contender blank blank (only Phase.arbitration) Look
-    ∷ row Kind.acknowledge unlisted blank blank (only Phase.arbitration) Acknowledge
-    ∷ row Kind.beginTransferOne grantedCard blank blank (only Phase.granted) BeginTransferOne
-    ∷ row Kind.takeBus grantedCard blank blank (only Phase.transferOne) TakeBus
-    ∷ row Kind.byteRead master listed blank allowsCycles Cycle
-    ∷ row Kind.opcodeFetch master listed blank allowsCycles Cycle
-    ∷ row Kind.byteWrite master listed listed allowsCycles Cycle
-    ∷ row Kind.wordRead master listed blank allowsCycles Cycle
-    ∷ row Kind.wordWrite master listed listed allowsCycles Cycle
-    ∷ row Kind.input master listed blank allowsCycles Cycle
-    ∷ row Kind.output master listed listed allowsCycles Cycle
-    ∷ row Kind.beginTransferTwo grantedCard blank blank (only Phase.owned) BeginTransferTwo
-    ∷ row Kind.giveBack grantedCard blank blank (only Phase.transferTwo) GiveBack
-    ∷ row Kind.reset unlisted blank blank anyPhase Reset
+    -- kind; speaker, address, datum, phase, step
+    (Kind.request, row unlisted blank sixteenBits (only Phase.free) Step.Request)
+    ∷ (Kind.look, row contender blank noDatum (only Phase.arbitration) Step.Look)
+    ∷ (Kind.acknowledge, row unlisted blank noDatum (only Phase.arbitration) Step.Acknowledge)
+    ∷ (Kind.beginTransferOne, row grantedCard blank noDatum (only Phase.granted) Step.BeginTransferOne)
+    ∷ (Kind.takeBus, row grantedCard blank noDatum (only Phase.transferOne) Step.TakeBus)
+    ∷ (Kind.byteRead, row master listed noDatum Phase.hasCycles Step.Cycle)
+    ∷ (Kind.opcodeFetch, row master listed noDatum Phase.hasCycles Step.Cycle)
+    ∷ (Kind.byteWrite, row master listed oneByte Phase.hasCycles Step.Cycle)
+    ∷ (Kind.wordRead, row master listed noDatum Phase.hasCycles Step.Cycle)
+    ∷ (Kind.wordWrite, row master listed sixteenBits Phase.hasCycles Step.Cycle)
+    ∷ (Kind.input, row master listed noDatum Phase.hasCycles Step.Cycle)
+    ∷ (Kind.output, row master listed oneByte Phase.hasCycles Step.Cycle)
+    ∷ (Kind.beginTransferTwo, row grantedCard blank noDatum (only Phase.owned) Step.BeginTransferTwo)
+    ∷ (Kind.giveBack, row grantedCard blank noDatum (only Phase.transferTwo) Step.GiveBack)
+    ∷ (Kind.reset, row unlisted blank noDatum anyPhase Step.Reset)
     ∷ []
 
--- a kind that isn't in the table lists nothing, and no phase allows it, so its step is never taken
+-- a kind that isn't in the table lists nothing; no phase allows it, so that the step which stands here is never taken
 abbrev pub noRow : Row
-noRow = row 0 unlisted blank blank noPhase (Refused Refusal.malformed)
+noRow = row unlisted blank noDatum noPhase Step.Reset
 
-unfoldable pub rowIn : List Row → ℕ → Row
-rowIn [] kind = noRow
-rowIn (r ∷ rows) kind = cond (eqb kind (r .kind)) r (rowIn rows kind)
+abbrev pub hasRow : ℕ → Bool
+hasRow kind = hasBeside kind table
 
 abbrev pub rowOf : ℕ → Row
-rowOf kind = rowIn table kind
+rowOf kind = beside kind table noRow
+
+-- ---- What is asked of a row
 
 abbrev pub listsSpeaker : ℕ → Bool
 listsSpeaker kind = isListed (rowOf kind .speaker)
@@ -128,5 +126,20 @@ listsSpeaker kind = isListed (rowOf kind .speaker)
 abbrev pub listsAddress : ℕ → Bool
 listsAddress kind = rowOf kind .address
 
-abbrev pub listsDatum : ℕ → Bool
-listsDatum kind = rowOf kind .datum
+abbrev pub mostDatum : ℕ → ℕ
+mostDatum kind = rowOf kind .most
+
+abbrev pub isCycleStep : Step → Bool
+isCycleStep Step.Request = false
+isCycleStep Step.Look = false
+isCycleStep Step.Acknowledge = false
+isCycleStep Step.BeginTransferOne = false
+isCycleStep Step.TakeBus = false
+isCycleStep Step.Cycle = true
+isCycleStep Step.BeginTransferTwo = false
+isCycleStep Step.GiveBack = false
+isCycleStep Step.Reset = false
+
+-- an event of this kind is a cycle of some master's
+abbrev pub isCycle : ℕ → Bool
+isCycle kind = isCycleStep (rowOf kind .step)

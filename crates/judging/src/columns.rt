@@ -1,7 +1,13 @@
-// The columns of the event table that say which fields a kind lists.
+// The columns of the event table: what goes by the kind alone.
 ghost use mathlib.Core.Path.{_≡_};
-ghost use Rattle.judgement.specs.Table.{listsSpeaker, listsAddress, listsDatum};
+ghost use Rattle.judgement.specs.Table.{hasRow, listsSpeaker, listsAddress, mostDatum};
 use phases::numbers::*;
+
+pub fn has_row(kind: u8) -> bool
+    ensures { λ r. ⌜ r ≡ hasRow kind ⌝ }
+{
+    (REQUEST <= kind) & (kind <= LAST_KIND)
+}
 
 pub fn lists_speaker(kind: u8) -> bool
     ensures { λ r. ⌜ r ≡ listsSpeaker kind ⌝ }
@@ -15,8 +21,15 @@ pub fn lists_address(kind: u8) -> bool
     (BYTE_READ <= kind) & (kind <= OUTPUT)
 }
 
-pub fn lists_datum(kind: u8) -> bool
-    ensures { λ r. ⌜ r ≡ listsDatum kind ⌝ }
+// The most that the datum may be; 0 where none is listed.
+pub fn most_datum(kind: u8) -> u16
+    ensures { λ r. ⌜ r ≡ mostDatum kind ⌝ }
 {
-    (kind == REQUEST) | (kind == BYTE_WRITE) | (kind == WORD_WRITE) | (kind == OUTPUT)
+    match kind {
+        REQUEST => 0xFFFF,
+        BYTE_WRITE => 0xFF,
+        WORD_WRITE => 0xFFFF,
+        OUTPUT => 0xFF,
+        _ => 0,
+    }
 }

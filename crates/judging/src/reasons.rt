@@ -1,9 +1,10 @@
 // The reasons to refuse an event that go by more than its kind and the phase.
 ghost use mathlib.Core.Path.{_≡_};
 ghost use Rattle.judgement.specs.Refusals.{hasStrayField, isMalformed, namesNobody, namesUnfitted, pageAt, isOddWord, isAbsent};
+use crate::columns::has_row;
 use crate::columns::lists_address;
-use crate::columns::lists_datum;
 use crate::columns::lists_speaker;
+use crate::columns::most_datum;
 use cards::card_in;
 use cards::is_within;
 use cards::some_card;
@@ -16,19 +17,17 @@ pub fn is_malformed(event: Event) -> bool
     ensures { λ r. ⌜ r ≡ isMalformed event ⌝ }
 {
     let kind = event.kind;
-    !((REQUEST <= kind) & (kind <= RESET))
+    !has_row(kind)
         | (PERMANENT_MASTER < event.speaker)
         | has_stray_field(event)
-        | (((kind == BYTE_WRITE) | (kind == OUTPUT)) & (0xFF < event.datum))
+        | (most_datum(kind) < event.datum)
 }
 
 fn has_stray_field(event: Event) -> bool
     ensures { λ r. ⌜ r ≡ hasStrayField event ⌝ }
 {
     let kind = event.kind;
-    (!lists_speaker(kind) & !(event.speaker == 0))
-        | (!lists_address(kind) & !(event.address == 0))
-        | (!lists_datum(kind) & !(event.datum == 0))
+    (!lists_speaker(kind) & !(event.speaker == 0)) | (!lists_address(kind) & !(event.address == 0))
 }
 
 // 04

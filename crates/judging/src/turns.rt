@@ -1,39 +1,23 @@
 // The judgement: the refusal of an event on a sensible bus, or the step that it takes.
 ghost use mathlib.Core.Path.{_≡_};
-ghost use mathlib.Core.Bool.{cond};
-ghost use Rattle.bus.specs.Refusal.{notItsTurn, unsettled};
-ghost use Rattle.judgement.specs.Judge.{numberOf, soundVerdict};
-ghost use Rattle.judging.specs.Turns.{turnOf, cycleTurn};
+ghost use lib.Dec.{eqb};
+ghost use Rattle.judgement.specs.Table.{masterOf};
+ghost use Rattle.judgement.specs.Judge.{soundVerdict};
+ghost use Rattle.judging.specs.Turns.{turnOf, inTurn, onSettled, atAddress, askedOf};
 use crate::reasons::is_absent;
 use crate::reasons::is_malformed;
 use crate::reasons::is_odd_word;
 use crate::reasons::names_nobody;
 use crate::reasons::names_unfitted;
+use crate::rules::ruled;
 use bus::Bus;
+use bus::Step;
 use bus::numbers::*;
 use cards::card_in;
 use judgement::Event;
 use judgement::PERMANENT_MASTER;
 use judgement::Verdict;
 use phases::numbers::*;
-
-// The number that is answered: 0 for a step.
-pub fn number_of(verdict: Verdict) -> u8
-    ensures { λ r. ⌜ r ≡ numberOf verdict ⌝ }
-{
-    match verdict {
-        Verdict::Refused(number) => number,
-        Verdict::Request => ACCEPTED,
-        Verdict::Look => ACCEPTED,
-        Verdict::Acknowledge => ACCEPTED,
-        Verdict::BeginTransferOne => ACCEPTED,
-        Verdict::TakeBus => ACCEPTED,
-        Verdict::Cycle => ACCEPTED,
-        Verdict::BeginTransferTwo => ACCEPTED,
-        Verdict::GiveBack => ACCEPTED,
-        Verdict::Reset => ACCEPTED,
-    }
-}
 
 // 03, 04 and 05, and then what kind and phase say.
 pub fn judge(bus: Bus, event: Event) -> Verdict
@@ -42,7 +26,7 @@ pub fn judge(bus: Bus, event: Event) -> Verdict
     if is_malformed(event) {
         Verdict::Refused(MALFORMED)
     } else if names_nobody(event) {
-        Verdict::Refused(NAMES_NOBODY)
+        Verdict::Refused(NOBODY_NAMED)
     } else if names_unfitted(bus.fitted, event) {
         Verdict::Refused(NOT_FITTED)
     } else {
@@ -50,58 +34,40 @@ pub fn judge(bus: Bus, event: Event) -> Verdict
     }
 }
 
-// 06 to 0A: whether the phase allows the kind, and then whatever else the kind asks for.
+// From 06 on.
 fn turn(bus: Bus, event: Event) -> Verdict
     ensures { λ r. ⌜ r ≡ turnOf bus event ⌝ }
 {
-    let kind = event.kind;
-    let phase = bus.phase;
-    let speaker = event.speaker;
-    match kind {
-        REQUEST => match phase {
-            FREE => Verdict::Request,
-            _ => Verdict::Refused(WRONG_PHASE),
-        },
-        LOOK => match phase {
-            ARBITRATION => in_turn(card_in(bus.contenders, speaker), Verdict::Look),
-            _ => Verdict::Refused(WRONG_PHASE),
-        },
-        ACKNOWLEDGE => match phase {
-            ARBITRATION => on_settled(bus.is_settled()),
-            _ => Verdict::Refused(WRONG_PHASE),
-        },
-        BEGIN_TRANSFER_ONE => match phase {
-            GRANTED => in_turn(speaker == bus.granted, Verdict::BeginTransferOne),
-            _ => Verdict::Refused(WRONG_PHASE),
-        },
-        TAKE_BUS => match phase {
-            TRANSFER_ONE => in_turn(speaker == bus.granted, Verdict::TakeBus),
-            _ => Verdict::Refused(WRONG_PHASE),
-        },
-        BYTE_READ..=OUTPUT => match phase {
-            FREE..=ARBITRATION => cycle(bus, event, PERMANENT_MASTER),
-            OWNED => cycle(bus, event, bus.granted),
-            _ => Verdict::Refused(WRONG_PHASE),
-        },
-        BEGIN_TRANSFER_TWO => match phase {
-            OWNED => in_turn(speaker == bus.granted, Verdict::BeginTransferTwo),
-            _ => Verdict::Refused(WRONG_PHASE),
-        },
-        GIVE_BACK => match phase {
-            TRANSFER_TWO => in_turn(speaker == bus.granted, Verdict::GiveBack),
-            _ => Verdict::Refused(WRONG_PHASE),
-        },
-        RESET => Verdict::Reset,
-        _ => Verdict::Refused(WRONG_PHASE),
+    let verdict = ruled(event.kind, bus.phase);
+    match verdict {
+        Verdict::Refused(number) => Verdict::Refused(number),
+        Verdict::Takes(step) => asked(step, bus, event),
+    }
+}
+
+// From 07 on: whatever else the step asks for.
+fn asked(step: Step, bus: Bus, event: Event) -> Verdict
+    ensures { λ r. ⌜ r ≡ askedOf step bus event ⌝ }
+{
+    match step {
+        Step::Request => Verdict::Takes(Step::Request),
+        Step::Look => in_turn(card_in(bus.contenders, event.speaker), Step::Look),
+        Step::Acknowledge => on_settled(bus.is_settled()),
+        Step::BeginTransferOne => in_turn(event.speaker == bus.granted, Step::BeginTransferOne),
+        Step::TakeBus => in_turn(event.speaker == bus.granted, Step::TakeBus),
+        Step::Cycle => cycle(bus, event),
+        Step::BeginTransferTwo => in_turn(event.speaker == bus.granted, Step::BeginTransferTwo),
+        Step::GiveBack => in_turn(event.speaker == bus.granted, Step::GiveBack),
+        Step::Reset => Verdict::Takes(Step::Reset),
     }
 }
 
 // 07, where the speaker has no turn.
-fn in_turn(its: bool, step: Verdict) -> Verdict
-    ensures { λ r. ⌜ r ≡ cond its step (Verdict.Refused notItsTurn) ⌝ }
+fn in_turn(its: bool, step: Step) -> Verdict
+    ensures { λ r. ⌜ r ≡ inTurn its (Verdict.Takes step) ⌝ }
 {
     if its {
-        step
+        Verdict::Takes(step)
     } else {
         Verdict::Refused(NOT_ITS_TURN)
     }
@@ -109,29 +75,39 @@ fn in_turn(its: bool, step: Verdict) -> Verdict
 
 // 08, where the lines aren't settled.
 fn on_settled(settled: bool) -> Verdict
-    ensures { λ r. ⌜ r ≡ cond settled Verdict.Acknowledge (Verdict.Refused unsettled) ⌝ }
+    ensures { λ r. ⌜ r ≡ onSettled settled ⌝ }
 {
     if settled {
-        Verdict::Acknowledge
+        Verdict::Takes(Step::Acknowledge)
     } else {
         Verdict::Refused(UNSETTLED)
     }
 }
 
-// 07, 09 and 0A, of a cycle in a phase of this master's.
-fn cycle(bus: Bus, event: Event, master: u8) -> Verdict
-    ensures { λ r. ⌜ r ≡ cycleTurn bus event master ⌝ }
+// 07, and what goes by the address, of a cycle.
+fn cycle(bus: Bus, event: Event) -> Verdict
+    ensures { λ r. ⌜ r ≡ inTurn (eqb (event .speaker) (masterOf bus)) (atAddress bus event) ⌝ }
 {
     let pages = bus.pages;
-    if event.speaker == master {
+    if event.speaker == master_of(bus) {
         if is_odd_word(event) {
             Verdict::Refused(ODD_WORD)
         } else if is_absent(pages, event) {
             Verdict::Refused(ABSENT)
         } else {
-            Verdict::Cycle
+            Verdict::Takes(Step::Cycle)
         }
     } else {
         Verdict::Refused(NOT_ITS_TURN)
+    }
+}
+
+fn master_of(bus: Bus) -> u8
+    ensures { λ r. ⌜ r ≡ masterOf bus ⌝ }
+{
+    if bus.phase == OWNED {
+        bus.granted
+    } else {
+        PERMANENT_MASTER
     }
 }

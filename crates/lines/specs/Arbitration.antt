@@ -32,8 +32,8 @@ abbrev pub fourLines : (ℕ → Bool) → Arbitration
 fourLines contends = byNumber 4 contends
 
 -- the contenders alone, given as the list of their numbers; levels and looks go by the position in this list
-abbrev pub listed : ℕ → List ℕ → Arbitration
-listed w numbers = record { width = w; places = length numbers; number = λ q. getD numbers q 0; contends = λ q. true }
+abbrev pub byList : ℕ → List ℕ → Arbitration
+byList w numbers = record { width = w; places = length numbers; number = λ q. getD numbers q 0; contends = λ q. true }
 
 -- the card at place q contends
 pub record Contender (a : Arbitration) (q : ℕ) : Type 0 where

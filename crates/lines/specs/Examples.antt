@@ -6,7 +6,7 @@ use mathlib.Core.List.{List, [], _∷_, flatten}
 use lib.Dec.{eqb}
 use lib.ListN.{getD, replicate}
 use Rattle.words.specs.Among.{isAmong}
-use Rattle.lines.specs.Arbitration.{Arbitration, fourLines, listed, Highest, shown, settled, afterLooks, isRound, areRounds}
+use Rattle.lines.specs.Arbitration.{Arbitration, fourLines, byList, Highest, shown, settled, afterLooks, isRound, areRounds}
 use Rattle.lines.specs.Promises.{InRange, SettledAt}
 
 -- ---- Cards 4, 9 and 10 contend, nobody drives at first, and they look in a bad order.
@@ -50,7 +50,7 @@ pub record ThreeRoundsFallShort : Type 0 where
 -- ---- The same cards as a list: 10, 9 and 4 stand and look at positions 0, 1 and 2.
 
 abbrev pub threeListed : Arbitration
-threeListed = listed 4 (10 ∷ 9 ∷ 4 ∷ [])
+threeListed = byList 4 (10 ∷ 9 ∷ 4 ∷ [])
 
 abbrev pub listedAfter : List (List ℕ) → List ℕ
 listedAfter rounds = afterLooks threeListed (0 ∷ 0 ∷ 0 ∷ []) (flatten rounds)

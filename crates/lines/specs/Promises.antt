@@ -14,7 +14,7 @@ use Rattle.lines.specs.Arbitration.{
   Arbitration,
   byNumber,
   fourLines,
-  listed,
+  byList,
   Contender,
   Highest,
   everyContender,
@@ -151,33 +151,33 @@ pub record DistinctBelow (w : ℕ) (numbers : List ℕ) : Type 0 where
 
 -- Where the list is not empty, some position has the highest number,
 abbrev pub ListedHighestExists : Type 0
-ListedHighestExists = (w number : ℕ) (others : List ℕ) → (p : ℕ) × Highest (listed w (number ∷ others)) p
+ListedHighestExists = (w number : ℕ) (others : List ℕ) → (p : ℕ) × Highest (byList w (number ∷ others)) p
 
 -- and only one.
 abbrev pub ListedHighestUnique : Type 0
 ListedHighestUnique =
-    (w : ℕ) (numbers : List ℕ) → DistinctBelow w numbers → (p q : ℕ) → Highest (listed w numbers) p → Highest (listed w numbers) q → p ≡ q
+    (w : ℕ) (numbers : List ℕ) → DistinctBelow w numbers → (p q : ℕ) → Highest (byList w numbers) p → Highest (byList w numbers) q → p ≡ q
 
 -- w rounds leave the lines settled at the highest number, which one position alone has.
 abbrev pub ListedRoundsSettle : Type 0
 ListedRoundsSettle =
-    (w : ℕ) (numbers : List ℕ) → DistinctBelow w numbers → (p : ℕ) → Highest (listed w numbers) p
-    → (levels : List ℕ) → InRange (listed w numbers) levels
-    → (rounds : List (List ℕ)) → length rounds ≡ w → areRounds (listed w numbers) rounds ≡ true → (after : List ℕ)
-    → SettledAt (listed w numbers) (afterLooks (listed w numbers) levels (flatten rounds ++ after)) (getD numbers p 0)
+    (w : ℕ) (numbers : List ℕ) → DistinctBelow w numbers → (p : ℕ) → Highest (byList w numbers) p
+    → (levels : List ℕ) → InRange (byList w numbers) levels
+    → (rounds : List (List ℕ)) → length rounds ≡ w → areRounds (byList w numbers) rounds ≡ true → (after : List ℕ)
+    → SettledAt (byList w numbers) (afterLooks (byList w numbers) levels (flatten rounds ++ after)) (getD numbers p 0)
     × ((q : ℕ) → q < length numbers → getD numbers q 0 ≡ getD numbers p 0 → q ≡ p)
 
 -- Settled lines show the highest number.
 abbrev pub ListedShowHighest : Type 0
 ListedShowHighest =
-    (w : ℕ) (numbers : List ℕ) → DistinctBelow w numbers → (p : ℕ) → Highest (listed w numbers) p
-    → (levels : List ℕ) → settled (listed w numbers) levels ≡ true → shown (listed w numbers) levels ≡ getD numbers p 0
+    (w : ℕ) (numbers : List ℕ) → DistinctBelow w numbers → (p : ℕ) → Highest (byList w numbers) p
+    → (levels : List ℕ) → settled (byList w numbers) levels ≡ true → shown (byList w numbers) levels ≡ getD numbers p 0
 
 -- Of the lists with a level for each position, at most one is settled.
 abbrev pub ListedSettledUnique : Type 0
 ListedSettledUnique =
     (w : ℕ) (numbers : List ℕ) → DistinctBelow w numbers → (l m : List ℕ) → length l ≡ length numbers → length m ≡ length numbers
-    → settled (listed w numbers) l ≡ true → settled (listed w numbers) m ≡ true → l ≡ m
+    → settled (byList w numbers) l ≡ true → settled (byList w numbers) m ≡ true → l ≡ m
 
 -- ---- The four lines of this bus, with the levels of its sixteen cards
 

@@ -1,18 +1,19 @@
 -- A word seen through its pair: the two bytes that are lent hold the word, and when they are back the memory is as the word's cycle leaves it.
 use mathlib.Core.Path.{_≡_, refl, sym, ap, ap₂, _∙_}
-use mathlib.Core.Bool.{Bool, true}
+use mathlib.Core.Bool.{true}
 use mathlib.Core.List.{List, [], _∷_, _++_, append-assoc}
 use Prim.Native.Nat.{ℕ, _+_, _-_}
 use native.Mathlib.Omega.{arith}
 use lib.Dec.{lit<}
 use lib.ListN.{length, getD, take, drop, length-take, length-drop, drop-of-length-le}
 use borrow.Rule.Slice.PartMut.{midOf, putMid, post-is}
+use Rattle.memory.specs.declared.Slave.{Slave}
 use Rattle.memory.specs.Halves.{evenHalf, oddHalf, wordOf}
 use Rattle.memory.specs.Cycles.{pairAt, hasWord, wordRead, wordWrite, afterWordWrite}
 use Rattle.memory.specs.Promises.{inWordCycles}
 use Rattle.memory.proofs.WordLaws.{pair-entry, word-lies, word-ends, word-read-is, word-write-is, after-word-ganged}
 
-module _ (s : Bool) (m : List ℕ) (a : ℕ) (h : hasWord m a ≡ true) where
+module _ (s : Slave) (m : List ℕ) (a : ℕ) (h : hasWord m a ≡ true) where
   pub pair-size : length (pairAt m a) ≡ 2
   pair-size = omega (arith, length-take 2 (drop a m), length-drop a m, word-ends (length m) a h)
 
@@ -22,7 +23,9 @@ module _ (s : Bool) (m : List ℕ) (a : ℕ) (h : hasWord m a ≡ true) where
   pub pair-read : wordRead s (pairAt m a) 0 ≡ wordRead s m a
   pair-read =
       word-read-is (pairAt m a) 0 s pair-has-word
-      ∙ ap₂ (λ (x y : ℕ). inWordCycles s (wordOf x y)) (pair-entry m a 0 (lit< tt) ∙ ap (λ (k : ℕ). getD m k 0) (omega arith)) (pair-entry m a 1 (lit< tt))
+      ∙ ap₂ (λ (x y : ℕ). inWordCycles s (wordOf x y))
+      (pair-entry m a 0 (lit< tt) ∙ ap (λ (k : ℕ). getD m k 0) (omega arith))
+      (pair-entry m a 1 (lit< tt))
       ∙ sym (word-read-is m a s h)
 
   pub pair-write : (v : ℕ) → wordWrite s (pairAt m a) 0 v ≡ wordWrite s m a v

@@ -5,7 +5,9 @@ use mathlib.Core.List.{List, [], _∷_, _++_}
 use lib.Dec.{eqb, ltb}
 use lib.ListN.{length, getD, set, take, drop}
 use Rattle.memory.specs.declared.Moved.{Moved}
+use Rattle.memory.specs.declared.Slave.{Slave}
 use Rattle.memory.specs.Halves.{evenHalf, oddHalf, wordOf}
+use Rattle.memory.specs.Slave.{assertsSIXTN}
 
 -- one bus cycle moved this datum
 abbrev pub inOneCycle : ℕ → Moved
@@ -58,7 +60,7 @@ serialWrite m a datum =
 abbrev pub afterSerialWrite : List ℕ → ℕ → ℕ → List ℕ
 afterSerialWrite m a datum = afterByteWrite (afterByteWrite m a (evenHalf datum)) (a + 1) (oddHalf datum)
 
--- ---- A word where there is one, the way its page answers: sixteen says that SIXTN is asserted (000, 2.6.5)
+-- ---- A word where there is one, the way its slave answers: in one cycle where it asserts SIXTN (000, 2.6.5)
 
 -- the address is even, and both bytes lie within so many
 abbrev pub wordFits : ℕ → ℕ → Bool
@@ -67,11 +69,11 @@ wordFits size a = eqb (a % 2) 0 && ltb (a + 1) size
 abbrev pub hasWord : List ℕ → ℕ → Bool
 hasWord m a = wordFits (length m) a
 
-unfoldable pub wordRead : Bool → List ℕ → ℕ → Moved
-wordRead sixteen m a = cond (hasWord m a) (cond sixteen (gangedRead m a) (serialRead m a)) nothing
+unfoldable pub wordRead : Slave → List ℕ → ℕ → Moved
+wordRead s m a = cond (hasWord m a) (cond (assertsSIXTN s) (gangedRead m a) (serialRead m a)) nothing
 
-unfoldable pub wordWrite : Bool → List ℕ → ℕ → ℕ → Moved
-wordWrite sixteen m a datum = cond (hasWord m a) (cond sixteen (gangedWrite datum) (serialWrite m a datum)) nothing
+unfoldable pub wordWrite : Slave → List ℕ → ℕ → ℕ → Moved
+wordWrite s m a datum = cond (hasWord m a) (cond (assertsSIXTN s) (gangedWrite datum) (serialWrite m a datum)) nothing
 
-unfoldable pub afterWordWrite : Bool → List ℕ → ℕ → ℕ → List ℕ
-afterWordWrite sixteen m a datum = cond (hasWord m a) (cond sixteen (afterGangedWrite m a datum) (afterSerialWrite m a datum)) m
+unfoldable pub afterWordWrite : Slave → List ℕ → ℕ → ℕ → List ℕ
+afterWordWrite s m a datum = cond (hasWord m a) (cond (assertsSIXTN s) (afterGangedWrite m a datum) (afterSerialWrite m a datum)) m

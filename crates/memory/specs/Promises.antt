@@ -3,10 +3,12 @@
 use Prim.Native.Nat.{ℕ, _+_, _%_, _<_, _≤_}
 use mathlib.Core.Path.{_≡_}
 use mathlib.Core.Logic.{_⊎_, _↔_}
-use mathlib.Core.Bool.{Bool, true, false, cond}
+use mathlib.Core.Bool.{true, cond}
 use mathlib.Core.List.{List, _++_}
+use lib.Dec.{eqb}
 use lib.ListN.{length, getD, take, drop}
 use Rattle.memory.specs.declared.Moved.{Moved}
+use Rattle.memory.specs.declared.Slave.{Slave}
 use Rattle.memory.specs.Halves.{evenHalf, oddHalf, wordOf}
 use Rattle.memory.specs.Cycles.{
   inOneCycle,
@@ -46,39 +48,39 @@ BytePastTheEnd =
 abbrev pub WordLies : Type 0
 WordLies = (m : List ℕ) (a : ℕ) → (hasWord m a ≡ true) ↔ ((a % 2 ≡ 0) × (a + 1 < length m))
 
--- one cycle on a sixteen-bit page, two on an eight-bit one
-abbrev pub inWordCycles : Bool → ℕ → Moved
-inWordCycles sixteen datum = record { datum = datum; cycles = cond sixteen 1 2 }
+-- one cycle on a page of code 2, sixteen bits, two on another
+abbrev pub inWordCycles : Slave → ℕ → Moved
+inWordCycles s datum = record { datum = datum; cycles = cond (eqb (s .code) 2) 1 2 }
 
--- There the even-addressed byte is read as the high half, a write answers what it wrote, and the page's width gives the cycles.
+-- There the even-addressed byte is read as the high half, a write answers what it wrote, and the page's code gives the cycles.
 abbrev pub WordMoves : Type 0
 WordMoves =
-    (sixteen : Bool) (m : List ℕ) (a : ℕ) → hasWord m a ≡ true
-    → (wordRead sixteen m a ≡ inWordCycles sixteen (wordOf (getD m a 0) (getD m (a + 1) 0)))
-    × ((datum : ℕ) → wordWrite sixteen m a datum ≡ inWordCycles sixteen datum)
+    (s : Slave) (m : List ℕ) (a : ℕ) → hasWord m a ≡ true
+    → (wordRead s m a ≡ inWordCycles s (wordOf (getD m a 0) (getD m (a + 1) 0)))
+    × ((datum : ℕ) → wordWrite s m a datum ≡ inWordCycles s datum)
 
 -- no cycle took place, and the memory is as it was
 pub record NoWord (m : List ℕ) (a : ℕ) : Type 0 where
-  pub read : (sixteen : Bool) → wordRead sixteen m a ≡ nothing
-  pub write : (sixteen : Bool) (datum : ℕ) → wordWrite sixteen m a datum ≡ nothing
-  pub unchanged : (sixteen : Bool) (datum : ℕ) → afterWordWrite sixteen m a datum ≡ m
+  pub read : (s : Slave) → wordRead s m a ≡ nothing
+  pub write : (s : Slave) (datum : ℕ) → wordWrite s m a datum ≡ nothing
+  pub unchanged : (s : Slave) (datum : ℕ) → afterWordWrite s m a datum ≡ m
 
-abbrev pub OddWord : Type 0
-OddWord = (m : List ℕ) (a : ℕ) → a % 2 ≡ 1 → NoWord m a
+abbrev pub OddAddress : Type 0
+OddAddress = (m : List ℕ) (a : ℕ) → a % 2 ≡ 1 → NoWord m a
 
 abbrev pub WordPastTheEnd : Type 0
 WordPastTheEnd = (m : List ℕ) (a : ℕ) → length m ≤ a + 1 → NoWord m a
 
--- ---- The two ways: they differ in cycles alone, also where there is no word.
+-- ---- Whichever slaves: they differ in cycles alone, also where there is no word.
 
 abbrev pub SameBytes : Type 0
-SameBytes = (m : List ℕ) (a datum : ℕ) → afterWordWrite true m a datum ≡ afterWordWrite false m a datum
+SameBytes = (s t : Slave) (m : List ℕ) (a datum : ℕ) → afterWordWrite s m a datum ≡ afterWordWrite t m a datum
 
 abbrev pub SameDatum : Type 0
 SameDatum =
-    (m : List ℕ) (a : ℕ)
-    → (wordRead true m a .datum ≡ wordRead false m a .datum)
-    × ((datum : ℕ) → wordWrite true m a datum .datum ≡ wordWrite false m a datum .datum)
+    (s t : Slave) (m : List ℕ) (a : ℕ)
+    → (wordRead s m a .datum ≡ wordRead t m a .datum)
+    × ((datum : ℕ) → wordWrite s m a datum .datum ≡ wordWrite t m a datum .datum)
 
 -- ---- What a write leaves alone
 
@@ -91,16 +93,16 @@ abbrev pub ByteWriteKeeps : Type 0
 ByteWriteKeeps = (m : List ℕ) (a b : ℕ) → SameOutside a 1 m (afterByteWrite m a b)
 
 abbrev pub WordWriteKeeps : Type 0
-WordWriteKeeps = (sixteen : Bool) (m : List ℕ) (a datum : ℕ) → SameOutside a 2 m (afterWordWrite sixteen m a datum)
+WordWriteKeeps = (s : Slave) (m : List ℕ) (a datum : ℕ) → SameOutside a 2 m (afterWordWrite s m a datum)
 
 -- A word's cycle needs its two bytes and no others: it is the same on the pair alone, put back in its place.
 abbrev pub WordOfItsPair : Type 0
 WordOfItsPair =
-    (sixteen : Bool) (m : List ℕ) (a : ℕ) → hasWord m a ≡ true
-    → (wordRead sixteen (pairAt m a) 0 ≡ wordRead sixteen m a)
+    (s : Slave) (m : List ℕ) (a : ℕ) → hasWord m a ≡ true
+    → (wordRead s (pairAt m a) 0 ≡ wordRead s m a)
     × ((datum : ℕ)
-    → (wordWrite sixteen (pairAt m a) 0 datum ≡ wordWrite sixteen m a datum)
-    × (take a m ++ (afterWordWrite sixteen (pairAt m a) 0 datum ++ drop (a + 2) m) ≡ afterWordWrite sixteen m a datum))
+    → (wordWrite s (pairAt m a) 0 datum ≡ wordWrite s m a datum)
+    × (take a m ++ (afterWordWrite s (pairAt m a) 0 datum ++ drop (a + 2) m) ≡ afterWordWrite s m a datum))
 
 -- ---- What was written reads back: a read brings what the write answered.
 
@@ -109,17 +111,17 @@ ByteReadsBack = (m : List ℕ) (a b : ℕ) → byteRead (afterByteWrite m a b) a
 
 -- the write's way and the read's may be different ones; the cycles are those of the read's
 abbrev pub WordReadsBack : Type 0
-WordReadsBack = (wrote reads : Bool) (m : List ℕ) (a datum : ℕ) → wordRead reads (afterWordWrite wrote m a datum) a ≡ wordWrite reads m a datum
+WordReadsBack = (wrote reads : Slave) (m : List ℕ) (a datum : ℕ) → wordRead reads (afterWordWrite wrote m a datum) a ≡ wordWrite reads m a datum
 
 -- A written word read by byte cycles: the high half is at the even address, the low half at the odd one.
 abbrev pub WordReadByBytes : Type 0
 WordReadByBytes =
-    (sixteen : Bool) (m : List ℕ) (a datum : ℕ) → hasWord m a ≡ true
-    → (byteRead (afterWordWrite sixteen m a datum) a ≡ inOneCycle (evenHalf datum))
-    × (byteRead (afterWordWrite sixteen m a datum) (a + 1) ≡ inOneCycle (oddHalf datum))
+    (s : Slave) (m : List ℕ) (a datum : ℕ) → hasWord m a ≡ true
+    → (byteRead (afterWordWrite s m a datum) a ≡ inOneCycle (evenHalf datum))
+    × (byteRead (afterWordWrite s m a datum) (a + 1) ≡ inOneCycle (oddHalf datum))
 
 -- And two written bytes read by a word cycle.
 abbrev pub BytesReadAsWord : Type 0
 BytesReadAsWord =
-    (sixteen : Bool) (m : List ℕ) (a even odd : ℕ) → hasWord m a ≡ true
-    → wordRead sixteen (afterByteWrite (afterByteWrite m a even) (a + 1) odd) a ≡ inWordCycles sixteen (wordOf even odd)
+    (s : Slave) (m : List ℕ) (a even odd : ℕ) → hasWord m a ≡ true
+    → wordRead s (afterByteWrite (afterByteWrite m a even) (a + 1) odd) a ≡ inWordCycles s (wordOf even odd)

@@ -8,7 +8,7 @@ use Rattle.phases.specs.Control.{strobeOf, controlIn}
 use Rattle.phases.specs.Examples.{Weights, Cycles, Tables, ControlTable}
 
 pub weights : Weights
-weights = record { phases = refl; asking = refl; cycles = refl; ending = refl; groups = refl; codes = refl; signals = refl; status = refl }
+weights = record { phases = refl; asking = refl; cycles = refl; ending = refl; last = refl; groups = refl; codes = refl; signals = refl; status = refl }
 
 pub cycles : Cycles
 cycles = record { memory = refl; words = refl; ports = refl }

@@ -1,21 +1,23 @@
 -- What the signals and the control outputs say of the phases.
-use Prim.Native.Nat.{ℕ, _+_, _<_, _≤_}
-use mathlib.Core.Path.{_≡_, refl, sym, subst}
+use Prim.Native.Nat.{ℕ, suc, _+_, _<_, _≤_}
+use mathlib.Core.Path.{_≡_, refl, sym}
 use mathlib.Core.Logic.{inl, inr}
 use mathlib.Core.Bool.{Bool, true, false, cond, not, _&&_, _||_, true≢false}
 use mathlib.Core.List.{[], _∷_}
 use native.Mathlib.Omega.{arith}
-use lib.Dec.{eqb, lit≤}
+use lib.Dec.{eqb, leb}
+use borrow.Author.Tests.{leb-true}
 use Rattle.words.specs.Below.{allBelow}
-use Rattle.words.specs.Among.{isAmong, beside}
+use Rattle.words.specs.Among.{isAmong, beside, everyRow}
 use Rattle.words.proofs.BelowLaws.{all-at, same-below}
+use Rattle.words.proofs.RowLaws.{rows-pass}
 use Rattle.phases.specs.Phase as Phase
 use Rattle.phases.specs.Kind as Kind
-use Rattle.phases.specs.Signal.{HOLD, pHLDA, ADSB, SDSB, DODSB, CDSB, isOn, signalsIn}
+use Rattle.phases.specs.Signal.{HOLD, pHLDA, ADSB, SDSB, DODSB, CDSB, isOn, signalTable, signalsIn}
 use Rattle.phases.specs.Driver.{address, statusLines, dataOut, control, driversIn, driverOf}
 use Rattle.phases.specs.Status.{statusOf}
-use Rattle.phases.specs.Control.{allowsCycles, strobeOf, controlIn, isMWRT}
-use Rattle.phases.specs.Promises.{AsInTableSeven, FreeMeansBoth, SignalSpans, drivenBy, DriversBySignals, TableSeven, WriteStrobe}
+use Rattle.phases.specs.Control.{strobeOf, controlIn, isMWRT}
+use Rattle.phases.specs.Promises.{FreeMeansBoth, SignalSpans, drivenBy, DriversBySignals, TableSeven, WriteStrobe}
 
 -- ---- HOLD and pHLDA
 
@@ -33,18 +35,12 @@ pub free-means-both : FreeMeansBoth
 unfolding agree allBelow beside signalsIn
 free-means-both phase h =
     agreed _ _
-    (all-at (λ p. agree (eqb p Phase.free) (not (isOn HOLD (signalsIn p)) && not (isOn pHLDA (signalsIn p)))) 6 refl phase (omega arith))
+    (all-at (λ p. agree (eqb p Phase.free) (not (isOn HOLD (signalsIn p)) && not (isOn pHLDA (signalsIn p)))) (suc Phase.last) refl phase (omega arith))
 
 -- leaving sXTRQ and SIXTN, the signals are at most 3F
 pub signals-most : (phase : ℕ) → signalsIn phase ≤ 0x3F
-unfolding signalsIn beside
-signals-most phase =
-    pick (eqb phase 0) 0 _ (lit≤ tt) (pick (eqb phase 1) 1 _ (lit≤ tt) (pick (eqb phase 2) 3 _ (lit≤ tt)
-    (pick (eqb phase 3) 0x1F _ (lit≤ tt) (pick (eqb phase 4) 0x3F _ (lit≤ tt) (pick (eqb phase 5) 0x1E 0 (lit≤ tt) (lit≤ tt))))))
-  where
-    pick : (b : Bool) (x y : ℕ) → x ≤ 0x3F → y ≤ 0x3F → cond b x y ≤ 0x3F
-    pick true x y hx hy = hx
-    pick false x y hx hy = hy
+unfolding signalsIn everyRow
+signals-most phase = leb-true (signalsIn phase) 0x3F (rows-pass (λ p signals. leb signals 0x3F) signalTable 0 refl phase (λ none. refl))
 
 -- a signal's span, computed over all that a byte can say
 span : (weight first last : ℕ) → allBelow (λ p. agree (isOn weight (signalsIn p)) (Phase.isFrom first last p)) 256 ≡ true
@@ -64,10 +60,10 @@ signal-spans phase h = record {
 
 -- a group's driver, computed over the phases
 driven : (group disabled enabled : ℕ)
-    → allBelow (λ p. eqb (driverOf p group) (drivenBy (isOn disabled (signalsIn p)) (isOn enabled (signalsIn p)))) 6 ≡ true
-    → (phase : ℕ) → phase ≤ 5 → driverOf phase group ≡ drivenBy (isOn disabled (signalsIn phase)) (isOn enabled (signalsIn phase))
+    → allBelow (λ p. eqb (driverOf p group) (drivenBy (isOn disabled (signalsIn p)) (isOn enabled (signalsIn p)))) (suc Phase.last) ≡ true
+    → (phase : ℕ) → phase ≤ Phase.last → driverOf phase group ≡ drivenBy (isOn disabled (signalsIn phase)) (isOn enabled (signalsIn phase))
 driven group disabled enabled all phase h =
-    same-below (λ p. driverOf p group) (λ p. drivenBy (isOn disabled (signalsIn p)) (isOn enabled (signalsIn p))) 6 all phase (omega arith)
+    same-below (λ p. driverOf p group) (λ p. drivenBy (isOn disabled (signalsIn p)) (isOn enabled (signalsIn p))) (suc Phase.last) all phase (omega arith)
 
 pub drivers-by-signals : DriversBySignals
 unfolding allBelow beside signalsIn driversIn
@@ -82,8 +78,8 @@ drivers-by-signals phase h = record {
 
 pub table-seven : TableSeven
 unfolding controlIn beside signalsIn
-table-seven phase kind (inl e) = subst (λ (p : ℕ). AsInTableSeven (controlIn p kind)) (sym e) record { sync = refl; stval = refl; dbin = refl; wr = refl; hlda = refl }
-table-seven phase kind (inr e) = subst (λ (p : ℕ). AsInTableSeven (controlIn p kind)) (sym e) record { sync = refl; stval = refl; dbin = refl; wr = refl; hlda = refl }
+table-seven phase kind (inl e) = rw e record { sync = refl; stval = refl; dbin = refl; wr = refl; hlda = refl }
+table-seven phase kind (inr e) = rw e record { sync = refl; stval = refl; dbin = refl; wr = refl; hlda = refl }
 
 -- MWRT at one kind, by whether there is a cycle and whether pHLDA is true, computed over all kinds
 strobe-right : ℕ → Bool → Bool → Bool
@@ -100,4 +96,7 @@ computed false false = refl
 pub write-strobe : WriteStrobe
 unfolding controlIn strobe-right
 write-strobe phase kind h =
-    agreed _ _ (all-at (λ k. strobe-right k (allowsCycles phase) (isOn pHLDA (signalsIn phase))) 256 (computed (allowsCycles phase) (isOn pHLDA (signalsIn phase))) kind h)
+    agreed _ _ (all-at (λ k. strobe-right k (Phase.hasCycles phase) held) 256 (computed (Phase.hasCycles phase) held) kind h)
+  where
+    held : Bool
+    held = isOn pHLDA (signalsIn phase)

@@ -1,8 +1,7 @@
 -- The five control outputs, and MWRT, which is made of one of them (000, 2.2.5, Table 7, 2.7.4 and 2.7.5).
 use Prim.Native.Nat.{ℕ, _+_}
-use mathlib.Core.Bool.{Bool, cond, not, _&&_, _||_}
+use mathlib.Core.Bool.{Bool, cond, not, _&&_}
 use mathlib.Core.List.{[], _∷_}
-use lib.Dec.{eqb}
 use Rattle.words.specs.Among.{isAmong}
 use Rattle.phases.specs.Phase as Phase
 use Rattle.phases.specs.Kind as Kind
@@ -25,10 +24,6 @@ pWR = 0x10
 
 -- ---- The rule
 
--- some master has cycles in these phases (000, 2.8.2.3.5; 01, "Events")
-abbrev pub allowsCycles : ℕ → Bool
-allowsCycles phase = eqb phase Phase.free || eqb phase Phase.arbitration || eqb phase Phase.owned
-
 -- cycles with the read strobe (000, 2.7.4)
 abbrev pub isReading : ℕ → Bool
 isReading kind = isAmong kind (Kind.byteRead ∷ Kind.opcodeFetch ∷ Kind.wordRead ∷ Kind.input ∷ [])
@@ -44,7 +39,7 @@ strobeOf kind = cond (isReading kind) pDBIN (cond (isWriting kind) pWR 0)
 -- The outputs that are true in a phase, with a cycle of this kind in it. The model has no time within a cycle, so pSYNC and pSTVAL, which mark
 -- its start, are never true.
 unfoldable pub controlIn : ℕ → ℕ → ℕ
-controlIn phase kind = cond (allowsCycles phase) (strobeOf kind) 0 + cond (isOn pHLDA (signalsIn phase)) pHLDA 0
+controlIn phase kind = cond (Phase.hasCycles phase) (strobeOf kind) 0 + cond (isOn pHLDA (signalsIn phase)) pHLDA 0
 
 -- MWRT, made of pWR and sOUT as they stand on the bus
 abbrev pub isMWRT : ℕ → ℕ → Bool

@@ -1,7 +1,7 @@
 -- The tables of 01 and 000, entry by entry.
 use Prim.Native.Nat.{ℕ, _+_}
 use mathlib.Core.Path.{_≡_}
-use mathlib.Core.Bool.{Bool, true, false}
+use mathlib.Core.Bool.{true, false}
 use mathlib.Core.List.{List, [], _∷_}
 use lib.ListN.{replicate}
 use Rattle.phases.specs.Phase as Phase
@@ -19,16 +19,18 @@ pub record Weights : Type 0 where
   pub cycles : Kind.byteRead ∷ Kind.opcodeFetch ∷ Kind.byteWrite ∷ Kind.wordRead ∷ Kind.wordWrite ∷ Kind.input ∷ Kind.output ∷ []
       ≡ 0x06 ∷ 0x07 ∷ 0x08 ∷ 0x09 ∷ 0x0A ∷ 0x0B ∷ 0x0C ∷ []
   pub ending : Kind.beginTransferTwo ∷ Kind.giveBack ∷ Kind.reset ∷ [] ≡ 0x0D ∷ 0x0E ∷ 0x0F ∷ []
+  pub last : Phase.last ∷ Kind.last ∷ [] ≡ 5 ∷ 0x0F ∷ []
   pub groups : address ∷ statusLines ∷ dataOut ∷ control ∷ [] ≡ 0 ∷ 1 ∷ 2 ∷ 3 ∷ []
   pub codes : noDriver ∷ permanent ∷ card ∷ both ∷ [] ≡ 0 ∷ 1 ∷ 2 ∷ 3 ∷ []
   pub signals : HOLD ∷ pHLDA ∷ ADSB ∷ SDSB ∷ DODSB ∷ CDSB ∷ SIXTN ∷ sXTRQ ∷ []
       ≡ 0x01 ∷ 0x02 ∷ 0x04 ∷ 0x08 ∷ 0x10 ∷ 0x20 ∷ 0x40 ∷ 0x80 ∷ []
   pub status : sMEMR ∷ sM1 ∷ sINP ∷ sOUT ∷ sWO ∷ [] ≡ 0x01 ∷ 0x02 ∷ 0x04 ∷ 0x08 ∷ 0x10 ∷ []
 
--- ---- Which cycles are of the memory, of words, and of ports: of the kinds from 05 to 0D, in their order
+-- ---- Which cycles are of the memory, of words, and of ports
 
-abbrev pub fiveToD : (ℕ → Bool) → List Bool
-fiveToD test = test 0x05 ∷ test 0x06 ∷ test 0x07 ∷ test 0x08 ∷ test 0x09 ∷ test 0x0A ∷ test 0x0B ∷ test 0x0C ∷ test 0x0D ∷ []
+-- what the kinds from 05 to 0D have, in their order
+abbrev pub fiveToD : {A : Type 0} → (ℕ → A) → List A
+fiveToD f = f 0x05 ∷ f 0x06 ∷ f 0x07 ∷ f 0x08 ∷ f 0x09 ∷ f 0x0A ∷ f 0x0B ∷ f 0x0C ∷ f 0x0D ∷ []
 
 pub record Cycles : Type 0 where
   pub memory : fiveToD Kind.isOfMemory ≡ false ∷ true ∷ true ∷ true ∷ true ∷ true ∷ false ∷ false ∷ false ∷ []
@@ -37,14 +39,16 @@ pub record Cycles : Type 0 where
 
 -- ---- The tables as bytes, and beyond their ends
 
+-- what the phases have, in their order, and the number behind them
+abbrev pub eachPhase : {A : Type 0} → (ℕ → A) → List A
+eachPhase f = f 0 ∷ f 1 ∷ f 2 ∷ f 3 ∷ f 4 ∷ f 5 ∷ f 6 ∷ []
+
 pub record Tables : Type 0 where
-  pub drivers : driversIn 0 ∷ driversIn 1 ∷ driversIn 2 ∷ driversIn 3 ∷ driversIn 4 ∷ driversIn 5 ∷ driversIn 6 ∷ []
+  pub drivers : eachPhase driversIn
       ≡ (1 ∷ 1 ∷ 1 ∷ 1 ∷ []) ∷ (1 ∷ 1 ∷ 1 ∷ 1 ∷ []) ∷ (1 ∷ 1 ∷ 1 ∷ 1 ∷ []) ∷ (0 ∷ 0 ∷ 0 ∷ 3 ∷ []) ∷ (2 ∷ 2 ∷ 2 ∷ 2 ∷ []) ∷ (0 ∷ 0 ∷ 0 ∷ 3 ∷ []) ∷ [] ∷ []
   pub noGroup : driverOf Phase.free 4 ≡ 0
-  pub signals : signalsIn 0 ∷ signalsIn 1 ∷ signalsIn 2 ∷ signalsIn 3 ∷ signalsIn 4 ∷ signalsIn 5 ∷ signalsIn 6 ∷ []
-      ≡ 0x00 ∷ 0x01 ∷ 0x03 ∷ 0x1F ∷ 0x3F ∷ 0x1E ∷ 0x00 ∷ []
-  pub status : statusOf 0x05 ∷ statusOf 0x06 ∷ statusOf 0x07 ∷ statusOf 0x08 ∷ statusOf 0x09 ∷ statusOf 0x0A ∷ statusOf 0x0B ∷ statusOf 0x0C ∷ statusOf 0x0D ∷ []
-      ≡ 0x00 ∷ 0x01 ∷ 0x03 ∷ 0x10 ∷ 0x01 ∷ 0x10 ∷ 0x04 ∷ 0x18 ∷ 0x00 ∷ []
+  pub signals : eachPhase signalsIn ≡ 0x00 ∷ 0x01 ∷ 0x03 ∷ 0x1F ∷ 0x3F ∷ 0x1E ∷ 0x00 ∷ []
+  pub status : fiveToD statusOf ≡ 0x00 ∷ 0x01 ∷ 0x03 ∷ 0x10 ∷ 0x01 ∷ 0x10 ∷ 0x04 ∷ 0x18 ∷ 0x00 ∷ []
 
 -- ---- Control outputs and MWRT (000, Table 7, 2.7.4, 2.7.5)
 

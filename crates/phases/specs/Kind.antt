@@ -18,7 +18,7 @@ beginTransferOne = 0x04
 abbrev pub takeBus : ℕ
 takeBus = 0x05
 
--- ---- The cycles, from here to output
+-- ---- The cycles
 
 abbrev pub byteRead : ℕ
 byteRead = 0x06
@@ -51,6 +51,9 @@ giveBack = 0x0E
 
 abbrev pub reset : ℕ
 reset = 0x0F
+
+abbrev pub last : ℕ
+last = reset
 
 -- ---- Which of the cycles it is
 

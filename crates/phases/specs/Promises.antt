@@ -11,11 +11,11 @@ use Rattle.phases.specs.Kind as Kind
 use Rattle.phases.specs.Signal.{HOLD, pHLDA, ADSB, SDSB, DODSB, CDSB, isOn, signalsIn}
 use Rattle.phases.specs.Driver.{address, statusLines, dataOut, control, noDriver, permanent, card, both, driverOf}
 use Rattle.phases.specs.Status.{statusOf}
-use Rattle.phases.specs.Control.{pSYNC, pSTVAL, pDBIN, pWR, allowsCycles, controlIn, isMWRT}
+use Rattle.phases.specs.Control.{pSYNC, pSTVAL, pDBIN, pWR, controlIn, isMWRT}
 
 -- A free bus is one with neither HOLD nor pHLDA (000, 2.8.2.3.2).
 abbrev pub FreeMeansBoth : Type 0
-FreeMeansBoth = (phase : ℕ) → phase ≤ 5 → eqb phase Phase.free ≡ (not (isOn HOLD (signalsIn phase)) && not (isOn pHLDA (signalsIn phase)))
+FreeMeansBoth = (phase : ℕ) → phase ≤ Phase.last → eqb phase Phase.free ≡ (not (isOn HOLD (signalsIn phase)) && not (isOn pHLDA (signalsIn phase)))
 
 -- From where to where each signal is true (000, 2.8.2.3): HOLD from the request until transfer two begins (001 has its end), pHLDA from the
 -- acknowledge until the bus is given back (house), ADSB, SDSB and DODSB from the first step of transfer one to the last of transfer two, CDSB
@@ -43,7 +43,7 @@ pub record DrivenBySignals (phase : ℕ) : Type 0 where
   pub ofControl : driverOf phase control ≡ drivenBy (isOn CDSB (signalsIn phase)) (isOn ADSB (signalsIn phase))
 
 abbrev pub DriversBySignals : Type 0
-DriversBySignals = (phase : ℕ) → phase ≤ 5 → DrivenBySignals phase
+DriversBySignals = (phase : ℕ) → phase ≤ Phase.last → DrivenBySignals phase
 
 -- the control outputs as 000, Table 7 lists them
 pub record AsInTableSeven (control : ℕ) : Type 0 where
@@ -61,4 +61,4 @@ TableSeven = (phase kind : ℕ) → (phase ≡ Phase.transferOne) ⊎ (phase ≡
 abbrev pub WriteStrobe : Type 0
 WriteStrobe =
     (phase kind : ℕ) → kind < 256
-    → isMWRT (controlIn phase kind) (statusOf kind) ≡ (allowsCycles phase && isAmong kind (Kind.byteWrite ∷ Kind.wordWrite ∷ []))
+    → isMWRT (controlIn phase kind) (statusOf kind) ≡ (Phase.hasCycles phase && isAmong kind (Kind.byteWrite ∷ Kind.wordWrite ∷ []))

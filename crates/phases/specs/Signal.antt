@@ -1,7 +1,7 @@
 -- The signals that an answer shows, as 01 weighs them in "The program and one whole run", and those that are true in a phase.
 use Prim.Native.Nat.{ℕ, _+_, _/_, _%_}
 use mathlib.Core.Bool.{Bool}
-use mathlib.Core.List.{[], _∷_}
+use mathlib.Core.List.{List, [], _∷_}
 use lib.Dec.{eqb}
 use Rattle.words.specs.Among.{beside}
 use Rattle.phases.specs.Phase as Phase
@@ -44,10 +44,11 @@ sXTRQ = 0x80
 abbrev pub disabling : ℕ
 disabling = ADSB + SDSB + DODSB
 
--- none is true in a phase that there is not
-unfoldable pub signalsIn : ℕ → ℕ
-signalsIn phase =
-    beside phase (
+abbrev pub signalTable : List (ℕ × ℕ)
+signalTable =
     (Phase.free, 0) ∷ (Phase.arbitration, HOLD) ∷ (Phase.granted, HOLD + pHLDA) ∷ (Phase.transferOne, HOLD + pHLDA + disabling)
     ∷ (Phase.owned, HOLD + pHLDA + disabling + CDSB) ∷ (Phase.transferTwo, pHLDA + disabling) ∷ []
-    ) 0
+
+-- none is true in a phase that there is not
+unfoldable pub signalsIn : ℕ → ℕ
+signalsIn phase = beside phase signalTable 0

@@ -13,6 +13,8 @@ pub const OWNED: u8 = 4;
 
 pub const TRANSFER_TWO: u8 = 5;
 
+pub const LAST_PHASE: u8 = TRANSFER_TWO;
+
 // Kinds of events.
 pub const REQUEST: u8 = 0x01;
 
@@ -43,6 +45,8 @@ pub const BEGIN_TRANSFER_TWO: u8 = 0x0D;
 pub const GIVE_BACK: u8 = 0x0E;
 
 pub const RESET: u8 = 0x0F;
+
+pub const LAST_KIND: u8 = RESET;
 
 // Who drives a group of lines.
 pub const NO_DRIVER: u8 = 0;

@@ -4,6 +4,8 @@ ghost use mathlib.Core.Path.{_≡_};
 ghost use lib.ListN.{take};
 use feeding::feed;
 use feeding::finish;
+use feeding::fresh;
+use feeding::has_room;
 use libc::STDOUT_FILENO;
 use session::Session;
 use session::Stage;
@@ -12,7 +14,7 @@ use session::Stage;
 struct Turn {
     // There is more to come: nothing failed, and neither the input nor the run has ended.
     goes_on: bool,
-    // Nothing complete is held, so that more has to be read.
+    // There was room for another answer, so that nothing complete is held, and more has to be read.
     reads: bool,
     session: Session,
     held: usize,
@@ -39,7 +41,7 @@ pub fn run(input: i32)
 // A proved loop ends, and no input is as long as this one may go on.
 fn take_turns(input: i32, text: &mut [u8], out: &mut [u8], memory: &mut [u8], ports: &mut [u8]) {
     let mut left = u64::MAX;
-    let mut session = Session::fresh();
+    let mut session = fresh();
     let mut held: usize = 0;
     let mut reads = true;
     while 0 < left {
@@ -77,7 +79,7 @@ fn take_turn(
     last(is_last, next, fed.held, text, out, memory, ports);
     Turn {
         goes_on: !is_over & !filled.ended,
-        reads: fed.written == 0,
+        reads: has_room(out, fed.written),
         session: next,
         held: fed.held,
     }

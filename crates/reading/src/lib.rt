@@ -1,7 +1,7 @@
 // Lines of text, read.
 mod digits;
-mod lines;
+mod line_reading;
 
-pub use lines::line_end;
-pub use lines::next_line;
-pub use lines::setup_line;
+pub use line_reading::line_end;
+pub use line_reading::next_line;
+pub use line_reading::setup_line;

@@ -1,8 +1,14 @@
 // Prints the tables of the bus and runs of its methods, in hexadecimal. The file stdout was written by hand, from the tables and runs of 01.
 use bus::Bus;
+use bus::Chassis;
 use bus::Settlement;
+use bus::SetupAnswer;
+use memory::EIGHT_BIT_PAGE;
 use memory::Moved;
+use memory::SIXTEEN_BIT_PAGE;
+use memory::Slave;
 use phases::numbers::*;
+use sense::freed;
 use sense::makes_sense;
 use sense::setup;
 use settling::settle;
@@ -127,6 +133,26 @@ fn kinds() {
 
 // ---- The states of 01's printed run, its cycles left out
 
+fn chassis(fitted: u16, pages: [u8; 16]) -> Chassis {
+    Chassis {
+        fitted: fitted,
+        pages: pages,
+    }
+}
+
+fn set_up(fitted: u16, pages: [u8; 16]) -> SetupAnswer {
+    setup(chassis(fitted, pages))
+}
+
+// Nobody drives anything.
+fn standing(chassis: Chassis, phase: u8, contenders: u16, granted: u8) -> Bus {
+    let mut bus = freed(chassis);
+    bus.phase = phase;
+    bus.contenders = contenders;
+    bus.granted = granted;
+    bus
+}
+
 // Phase, granted card, lines and signals, as the answer lines have them.
 fn show_bus(bus: Bus) -> Bus {
     put(bus.phase);
@@ -156,7 +182,7 @@ fn hand_over_and_back(bus: Bus) -> Bus {
 
 fn printed_run() {
     title(b"the printed run: phase, granted, lines, signals");
-    let made = setup(0x000A, [1, 2, 0, 0, 0, 0, 0, 0, 0, 0, 0, 0, 0, 0, 0, 0]);
+    let made = set_up(0x000A, [1, 2, 0, 0, 0, 0, 0, 0, 0, 0, 0, 0, 0, 0, 0, 0]);
     put(made.answer);
     end_line();
     let b = show_bus(made.bus);
@@ -168,32 +194,25 @@ fn printed_run() {
 
 // 1 where the state makes sense, with these parts beside fitted cards 1 and 3.
 fn sense(code: u8, phase: u8, contenders: u16, granted: u8) {
-    let bus = Bus {
-        fitted: 0x000A,
-        pages: [code; 16],
-        phase: phase,
-        contenders: contenders,
-        driven: [0; 16],
-        granted: granted,
-    };
+    let bus = standing(chassis(0x000A, [code; 16]), phase, contenders, granted);
     put(if makes_sense(bus) { 1 } else { 0 });
 }
 
 fn setups_and_senses() {
     title(b"setup with a page code of 3: answer, then fitted, phase, granted, lines, signals");
-    let made = setup(0x000A, [1, 2, 0, 0, 0, 0, 0, 0, 0, 0, 0, 0, 0, 0, 0, 3]);
+    let made = set_up(0x000A, [1, 2, 0, 0, 0, 0, 0, 0, 0, 0, 0, 0, 0, 0, 0, 3]);
     put(made.answer);
     end_line();
     put_word(made.bus.fitted);
     show_bus(made.bus);
     title(
-        b"sense: free, arbitration, owned; a code of 3, phase 6, an unfitted contender, none, one too early, an unfitted grant",
+        b"sense: free, arbitration, owned; a code of 3, no such phase, an unfitted contender, none, one too early, an unfitted grant",
     );
     sense(2, 0, 0, 0xFF);
     sense(2, 1, 0x0008, 0xFF);
     sense(2, 4, 0, 3);
     sense(3, 0, 0, 0xFF);
-    sense(2, 6, 0, 0xFF);
+    sense(2, LAST_PHASE + 1, 0, 0xFF);
     sense(2, 1, 0x0004, 0xFF);
     sense(2, 1, 0, 0xFF);
     sense(2, 0, 0x0008, 0xFF);
@@ -203,7 +222,7 @@ fn setups_and_senses() {
 
 // Cards 1 and 3 are fitted, and card 3 is granted.
 fn granted_three() -> Bus {
-    setup(0x000A, [1; 16])
+    set_up(0x000A, [1; 16])
         .bus
         .request(0x0008)
         .look(3)
@@ -226,7 +245,7 @@ fn out_of_turn() {
 // ---- The looks and settles that 01 marks for proof, M1 to M8
 
 fn contending(fitted: u16, cards: u16) -> Bus {
-    setup(fitted, [1; 16]).bus.request(cards)
+    set_up(fitted, [1; 16]).bus.request(cards)
 }
 
 fn round(bus: Bus, first: u8, second: u8, third: u8) -> Bus {
@@ -276,14 +295,7 @@ fn settles() {
 fn refused_settles() {
     title(b"card 0 alone, acknowledged; then settle refused");
     show_bus(contending(0x0001, 0x0001).acknowledge());
-    let senseless = Bus {
-        fitted: 0x0003,
-        pages: [3; 16],
-        phase: ARBITRATION,
-        contenders: 0x0002,
-        driven: [0; 16],
-        granted: 0xFF,
-    };
+    let senseless = standing(chassis(0x0003, [3; 16]), ARBITRATION, 0x0002, 0xFF);
     show_settlement(settle(senseless, &[16]));
     show_settlement(settle(contending(0x0003, 0x0002), &[2, 16]));
     show_settlement(settle(contending(0x0003, 0x0002), &[1, 2]));
@@ -300,6 +312,10 @@ fn show_moved(moved: Moved) {
     end_line();
 }
 
+fn page_of(code: u8) -> Slave {
+    Slave { code }
+}
+
 fn bytes() {
     title(
         b"bytes: 56 written at 3 and read there, beyond the end; a word at an odd address, and at the last byte",
@@ -308,8 +324,8 @@ fn bytes() {
     show_moved(moving::byte_write(&mut m, 3, 0x56));
     show_moved(moving::byte_read(&m, 3));
     show_moved(moving::byte_read(&m, 5));
-    show_moved(moving::word_write(&mut m, 1, 0x1234, true));
-    show_moved(moving::word_read(&m, 4, false));
+    show_moved(moving::word_write(&mut m, 1, 0x1234, page_of(SIXTEEN_BIT_PAGE)));
+    show_moved(moving::word_read(&m, 4, page_of(EIGHT_BIT_PAGE)));
     put(m[1]);
     put(m[2]);
     put(m[3]);
@@ -318,22 +334,22 @@ fn bytes() {
 }
 
 // 1234 written at 2 among six bytes of EE, which are then read back: as bytes, and as a word over either page.
-fn at_two(sixteen: bool) {
+fn at_two(slave: Slave) {
     let mut m: [u8; 6] = [0xEE; 6];
-    show_moved(moving::word_write(&mut m, 2, 0x1234, sixteen));
+    show_moved(moving::word_write(&mut m, 2, 0x1234, slave));
     put(m[1]);
     put(m[2]);
     put(m[3]);
     put(m[4]);
     end_line();
-    show_moved(moving::word_read(&m, 2, false));
-    show_moved(moving::word_read(&m, 2, true));
+    show_moved(moving::word_read(&m, 2, page_of(EIGHT_BIT_PAGE)));
+    show_moved(moving::word_read(&m, 2, page_of(SIXTEEN_BIT_PAGE)));
 }
 
 fn words() {
     title(
         b"a word at 2: cycles and datum written, bytes 1 to 4, cycles and datum read over eight and sixteen bits",
     );
-    at_two(false);
-    at_two(true);
+    at_two(page_of(EIGHT_BIT_PAGE));
+    at_two(page_of(SIXTEEN_BIT_PAGE));
 }

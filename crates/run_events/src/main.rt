@@ -1,6 +1,7 @@
 // Runs events with a memory, ports and a state that no text can bring about (01 and 02), and prints each answer as 01's line has it. The file
 // stdout was written by hand from 01.
 use bus::Bus;
+use bus::Chassis;
 use events::Answer;
 use judgement::Event;
 use sense::setup;
@@ -82,7 +83,10 @@ fn main() {
     let mut ports = [0u8; 256];
     let mut short = [0u8; 65535];
     let mut few = [0u8; 255];
-    let full = setup(0xFFFF, [1; 16]);
+    let full = setup(Chassis {
+        fitted: 0xFFFF,
+        pages: [1; 16],
+    });
     title(b"a byte is written");
     let first = run(full.bus, &[0x081000000400EE], &mut memory, &mut ports);
     misfit(first, &mut memory, &mut ports, &mut short, &mut few);
@@ -102,13 +106,13 @@ fn misfit(full: Bus, memory: &mut [u8], ports: &mut [u8], short: &mut [u8], few:
     run(full, &WRITE, memory, few)
 }
 
-// A state with a seventh phase.
+// A state with a phase that there is not.
 fn senseless(full: Bus, memory: &mut [u8], ports: &mut [u8], short: &mut [u8]) -> Bus {
     title(b"01 before 02, and 02");
-    let mut seventh = full;
-    seventh.phase = 6;
-    let both = run(seventh, &WRITE, short, ports);
-    run(seventh, &WRITE, memory, ports)
+    let mut lost = full;
+    lost.phase = 0xFF;
+    let both = run(lost, &WRITE, short, ports);
+    run(lost, &WRITE, memory, ports)
 }
 
 // The refused writes left the byte.

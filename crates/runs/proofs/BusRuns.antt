@@ -12,9 +12,10 @@ use Rattle.judgement.specs.Table.{rowOf}
 use Rattle.judgement.specs.Judge.{soundRefusal, refusalOf}
 use Rattle.judgement.specs.declared.event.Event.{Event}
 use Rattle.judgement.proofs.Passed.{sound-call}
-use Rattle.events.specs.Step.{stepBy, takenBy, afterAs, after}
+use Rattle.events.specs.Machine.{Machine}
+use Rattle.events.specs.Step.{busBy, takenBy, afterAs, after}
 use Rattle.events.proofs.Stays.{sense-kept-by-events}
-use Rattle.runs.specs.Run.{refusalOn, busAfter, machineOf, afterAll, acceptedOf}
+use Rattle.runs.specs.Run.{refusalOn, busAfter, machineFor, afterAll, acceptedOf}
 use Rattle.runs.specs.Promises.{Right}
 use Rattle.runs.specs.Examples.{callWith, over, refusalsOf}
 
@@ -24,7 +25,7 @@ abbrev pub refusalFor : Bus → Bool × Event → ℕ
 refusalFor bus x = cond (x .0) (soundRefusal bus (x .1)) 1
 
 abbrev pub busStep : Bus → Bool × Event → Bus
-busStep bus x = cond (eqb (refusalFor bus x) 0) (stepBy (rowOf (x .1 .kind) .step) bus (x .1)) bus
+busStep bus x = cond (eqb (refusalFor bus x) 0) (busBy (rowOf (x .1 .kind) .step) bus (x .1)) bus
 
 unfoldable pub busRun : Bus → List (Bool × Event) → Bus
 busRun bus [] = bus
@@ -49,15 +50,18 @@ module _ (memory ports : List ℕ) (right : Right memory ports) where
   pub step-for : (bus : Bus) → makesSense bus ≡ true → (x : Bool × Event) → busAfter bus (callWith memory ports x) ≡ busStep bus x
   unfolding after
   step-for bus sense x =
-      ap (λ (r : ℕ). afterAs r (machineOf bus (callWith memory ports x)) (x .1) .bus) (refusal-for bus sense x) ∙ go (eqb (refusalFor bus x) 0)
+      ap (λ (r : ℕ). afterAs r (machineFor bus (callWith memory ports x)) (x .1) .bus) (refusal-for bus sense x) ∙ go (eqb (refusalFor bus x) 0)
     where
-      go : (b : Bool) → cond b (takenBy (rowOf (x .1 .kind) .step) (machineOf bus (callWith memory ports x)) (x .1)) (machineOf bus (callWith memory ports x)) .bus
-          ≡ cond b (stepBy (rowOf (x .1 .kind) .step) bus (x .1)) bus
+      m : Machine
+      m = machineFor bus (callWith memory ports x)
+
+      go : (b : Bool) → cond b (takenBy (rowOf (x .1 .kind) .step) m (x .1)) m .bus
+          ≡ cond b (busBy (rowOf (x .1 .kind) .step) bus (x .1)) bus
       go true = refl
       go false = refl
 
   keeps : (bus : Bus) → makesSense bus ≡ true → (x : Bool × Event) → makesSense (busAfter bus (callWith memory ports x)) ≡ true
-  keeps bus sense x = sense-kept-by-events (machineOf bus (callWith memory ports x)) (x .1) sense
+  keeps bus sense x = sense-kept-by-events (machineFor bus (callWith memory ports x)) (x .1) sense
 
   -- ---- Many
 

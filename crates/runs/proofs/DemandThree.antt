@@ -10,6 +10,7 @@ use lib.Dec.{eqb, ltb}
 use lib.ListN.{getD}
 use lib.Seq.{getD-set-same}
 use borrow.Author.Tests.{eqb-false, le-ltb, le-leb, not-false}
+use Rattle.words.specs.Among.{beside, hasBeside}
 use Rattle.words.specs.First.{firstOf}
 use Rattle.words.proofs.TestLaws.{true-or-false, neither-of}
 use Rattle.words.proofs.BelowLaws.{some-not}
@@ -24,13 +25,12 @@ use Rattle.bus.specs.Promises.{Sensible}
 use Rattle.bus.specs.declared.state.Bus.{Bus}
 use Rattle.bus.proofs.SenseLaws.{sense-means}
 use Rattle.bus.proofs.Granting.{looks-drive, four-rounds}
-use Rattle.judgement.specs.Table.{rowIn}
 use Rattle.judgement.specs.Judge.{soundRefusal}
 use Rattle.judgement.proofs.Passed.{Passed, accepts, sound-call}
 use Rattle.events.specs.Machine.{Machine, machine}
 use Rattle.events.proofs.EachStep.{look-does, acknowledge-does}
-use Rattle.runs.specs.Run.{Call, call, refusalOn, busAfter, afterAll, looksIn, IsRound, GoesOn}
-use Rattle.runs.specs.Promises.{lookBy, acknowledge, Right, Arbitrates, FourRoundsOfEvents, SettledStays, Restless, AcknowledgeRefused}
+use Rattle.runs.specs.Run.{Call, call, refusalOn, busAfter, afterAll, looksIn, EachLooks, GoesOn}
+use Rattle.runs.specs.Promises.{lookBy, rightAcknowledge, Right, Arbitrates, FourRoundsOfEvents, SettledBusStays, Restless, AcknowledgeRefused}
 use Rattle.runs.proofs.RunLaws.{looks-append, goes-on-parts, sense-in-runs}
 use Rattle.runs.proofs.ArbitrationRuns.{run-looks, run-keeps}
 
@@ -38,24 +38,24 @@ use Rattle.runs.proofs.ArbitrationRuns.{run-looks, run-keeps}
 
 module _ (bus : Bus) (here : Arbitrates bus) (memory ports : List ℕ) (right : Right memory ports) where
   -- only the lines decide
-  acknowledge-refusal : refusalOn bus (call acknowledge memory ports) ≡ cond (isSettled bus) Refusal.accepted Refusal.unsettled
-  unfolding soundRefusal firstOf rowIn
-  acknowledge-refusal = sound-call bus acknowledge memory ports right (ap not (here .sense)) ∙ rw (here .phase) (go (isSettled bus))
+  acknowledge-refusal : refusalOn bus (call rightAcknowledge memory ports) ≡ cond (isSettled bus) Refusal.accepted Refusal.unsettled
+  unfolding soundRefusal firstOf beside hasBeside
+  acknowledge-refusal = sound-call bus rightAcknowledge memory ports right (ap not (here .sense)) ∙ rw (here .phase) (go (isSettled bus))
     where
       go : (b : Bool) → cond (not b) Refusal.unsettled 0 ≡ cond b Refusal.accepted Refusal.unsettled
       go true = refl
       go false = refl
 
-  accepted-settled : isSettled bus ≡ true → refusalOn bus (call acknowledge memory ports) ≡ Refusal.accepted
+  accepted-settled : isSettled bus ≡ true → refusalOn bus (call rightAcknowledge memory ports) ≡ Refusal.accepted
   accepted-settled still = acknowledge-refusal ∙ rw still
 
 -- the lines are settled at this number: an acknowledge grants that card
 grants-next : (bus : Bus) → Arbitrates bus → isSettled bus ≡ true → (card : ℕ) → linesOf bus ≡ card → (memory ports : List ℕ) → Right memory ports
-    → (refusalOn bus (call acknowledge memory ports) ≡ Refusal.accepted)
-    × ((busAfter bus (call acknowledge memory ports) .phase ≡ Phase.granted) × (busAfter bus (call acknowledge memory ports) .granted ≡ card))
+    → (refusalOn bus (call rightAcknowledge memory ports) ≡ Refusal.accepted)
+    × ((busAfter bus (call rightAcknowledge memory ports) .phase ≡ Phase.granted) × (busAfter bus (call rightAcknowledge memory ports) .granted ≡ card))
 grants-next bus here still card lines memory ports right =
     let ok = accepted-settled bus here memory ports right still in
-    let left = acknowledge-does (machine bus memory ports) acknowledge (refl, ok) .does .leaves in
+    let left = acknowledge-does (machine bus memory ports) rightAcknowledge (refl, ok) .does .leaves in
     (ok, (ap (λ (x : Machine). x .bus .phase) left, ap (λ (x : Machine). x .bus .granted) left ∙ lines))
 
 -- ---- Four rounds
@@ -68,6 +68,23 @@ joined l₁ l₂ l₃ l₄ l₅ =
     (append-assoc (l₁ ++ l₂) l₃ l₄
     ∙ append-assoc l₁ l₂ (l₃ ++ l₄)
     ∙ ap (λ (l : List ℕ). l₁ ++ (l₂ ++ (l₃ ++ l))) (sym (append-nil l₄)))
+
+-- the looks of four stretches of a run, and of what is left of it
+module _ (bus : Bus) (r₁ r₂ r₃ r₄ further : List Call) where
+  abbrev inFour : List (List ℕ)
+  inFour = looksIn bus r₁ ∷ looksIn (afterAll bus r₁) r₂ ∷ looksIn (afterAll bus (r₁ ++ r₂)) r₃ ∷ looksIn (afterAll bus (r₁ ++ r₂ ++ r₃)) r₄ ∷ []
+
+  abbrev inRest : List ℕ
+  inRest = looksIn (afterAll bus (r₁ ++ r₂ ++ r₃ ++ r₄)) further
+
+  looks-of-five : looksIn bus (r₁ ++ r₂ ++ r₃ ++ r₄ ++ further) ≡ flatten inFour ++ inRest
+  looks-of-five =
+      looks-append bus (r₁ ++ r₂ ++ r₃ ++ r₄) further
+      ∙ ap (λ (l : List ℕ). l ++ inRest)
+      (looks-append bus (r₁ ++ r₂ ++ r₃) r₄
+      ∙ ap (λ (l : List ℕ). l ++ looksIn (afterAll bus (r₁ ++ r₂ ++ r₃)) r₄)
+      (looks-append bus (r₁ ++ r₂) r₃ ∙ ap (λ (l : List ℕ). l ++ looksIn (afterAll bus (r₁ ++ r₂)) r₃) (looks-append bus r₁ r₂)))
+      ∙ joined (looksIn bus r₁) (looksIn (afterAll bus r₁) r₂) (looksIn (afterAll bus (r₁ ++ r₂)) r₃) (looksIn (afterAll bus (r₁ ++ r₂ ++ r₃)) r₄) inRest
 
 pub four-rounds-of-events : FourRoundsOfEvents
 four-rounds-of-events bus here card best r₁ r₂ r₃ r₄ further on e₁ e₂ e₃ e₄ = record {
@@ -103,33 +120,24 @@ four-rounds-of-events bus here card best r₁ r₂ r₃ r₄ further on e₁ e�
     on₁ = goes-on-parts bus r₁ r₂ on₂ .0
 
     -- a round of the contenders there are after a part of the run is one of those there were at first
-    same-round : (calls more : List Call) → GoesOn bus calls → IsRound (afterAll bus calls) more → isRound (arbitrationOf bus) (looksIn (afterAll bus calls) more) ≡ true
+    same-round : (calls more : List Call) → GoesOn bus calls → EachLooks (afterAll bus calls) more
+        → isRound (arbitrationOf bus) (looksIn (afterAll bus calls) more) ≡ true
     same-round calls more goes round =
-        subst (λ (cards : ℕ). isRound (fourLines (λ n. cardIn cards n)) (looksIn (afterAll bus calls) more) ≡ true) (run-keeps calls bus (here .phase) goes .1) round
+        subst (λ (cards : ℕ). isRound (fourLines (λ n. cardIn cards n)) (looksIn (afterAll bus calls) more) ≡ true)
+        (run-keeps calls bus (here .phase) goes .1)
+        round
 
-    four : List (List ℕ)
-    four = looksIn bus r₁ ∷ looksIn (afterAll bus r₁) r₂ ∷ looksIn (afterAll bus (r₁ ++ r₂)) r₃ ∷ looksIn (afterAll bus (r₁ ++ r₂ ++ r₃)) r₄ ∷ []
+    looks : List ℕ
+    looks = flatten (inFour bus r₁ r₂ r₃ r₄ further) ++ inRest bus r₁ r₂ r₃ r₄ further
 
-    rest : List ℕ
-    rest = looksIn (afterAll bus (r₁ ++ r₂ ++ r₃ ++ r₄)) further
+    left : end ≡ afterLooksOf bus looks
+    left = run-looks all bus (here .phase) on ∙ ap (afterLooksOf bus) (looks-of-five bus r₁ r₂ r₃ r₄ further)
 
-    looks : looksIn bus all ≡ flatten four ++ rest
-    looks =
-        looks-append bus (r₁ ++ r₂ ++ r₃ ++ r₄) further
-        ∙ ap (λ (l : List ℕ). l ++ rest)
-        (looks-append bus (r₁ ++ r₂ ++ r₃) r₄
-        ∙ ap (λ (l : List ℕ). l ++ looksIn (afterAll bus (r₁ ++ r₂ ++ r₃)) r₄)
-        (looks-append bus (r₁ ++ r₂) r₃ ∙ ap (λ (l : List ℕ). l ++ looksIn (afterAll bus (r₁ ++ r₂)) r₃) (looks-append bus r₁ r₂)))
-        ∙ joined (looksIn bus r₁) (looksIn (afterAll bus r₁) r₂) (looksIn (afterAll bus (r₁ ++ r₂)) r₃) (looksIn (afterAll bus (r₁ ++ r₂ ++ r₃)) r₄) rest
-
-    left : end ≡ afterLooksOf bus (flatten four ++ rest)
-    left = run-looks all bus (here .phase) on ∙ ap (afterLooksOf bus) looks
-
-    settles : (linesOf (afterLooksOf bus (flatten four ++ rest)) ≡ card) × (isSettled (afterLooksOf bus (flatten four ++ rest)) ≡ true)
+    settles : (linesOf (afterLooksOf bus looks) ≡ card) × (isSettled (afterLooksOf bus looks) ≡ true)
     settles =
         four-rounds bus (here .sense) (here .phase) card best _ _ _ _ e₁ (same-round r₁ r₂ on₁ e₂) (same-round (r₁ ++ r₂) r₃ on₂ e₃)
         (same-round (r₁ ++ r₂ ++ r₃) r₄ on₃ e₄)
-        rest
+        (inRest bus r₁ r₂ r₃ r₄ further)
 
     lines : linesOf end ≡ card
     lines = ap linesOf left ∙ settles .0
@@ -139,12 +147,12 @@ four-rounds-of-events bus here card best r₁ r₂ r₃ r₄ further on e₁ e�
 
 -- ---- Settled lines
 
-pub settled-stays : SettledStays
-settled-stays bus here still calls on =
+pub settled-bus-stays : SettledBusStays
+settled-bus-stays bus here still calls on =
     run-looks calls bus (here .phase) on
     ∙ looks-drive bus (here .phase) (looksIn bus calls)
     ∙ ap (λ (levels : List ℕ). changed bus (bus .phase) (bus .contenders) levels (bus .granted))
-    (lines-stay (arbitrationOf bus) (bus .driven) (sense-means bus .0 (here .sense) .sixteenLevels) still (looksIn bus calls))
+    (lines-stay (arbitrationOf bus) (bus .driven) (sense-means bus .0 (here .sense) .driving .sixteenLevels) still (looksIn bus calls))
 
 -- ---- Refused exactly if some contender is restless
 
@@ -154,10 +162,10 @@ module _ (bus : Bus) (here : Arbitrates bus) (memory ports : List ℕ) (right : 
 
   -- a contender's look is accepted
   look-passes : (card : ℕ) → Contender (arbitrationOf bus) card → refusalOn bus (call (lookBy card) memory ports) ≡ 0
-  unfolding rowIn
+  unfolding beside hasBeside
   look-passes card k =
       sound-call bus (lookBy card) memory ports right (ap not (here .sense))
-      ∙ accepts bus (lookBy card) (passes (le-ltb 0x10 card (omega (arith, below))) (sensible .contendersFitted card (k .contending)))
+      ∙ accepts bus (lookBy card) (passes (le-ltb 0x10 card (omega (arith, below))) (sensible .contention .contendersFitted card (k .contending)))
     where
       below : card < 16
       below = k .present
@@ -181,16 +189,20 @@ module _ (bus : Bus) (here : Arbitrates bus) (memory ports : List ℕ) (right : 
   look-leaves card k =
       let left = look-does (machine bus memory ports) (lookBy card) (refl, look-passes card k) .does .leaves in
       ap (λ (x : Machine). getD (x .bus .driven) card 0) left
-      ∙ getD-set-same (bus .driven) card _ 0 (subst (λ (n : ℕ). card < n) (sym (sensible .sixteenLevels)) (k .present))
+      ∙ getD-set-same (bus .driven) card _ 0 (subst (λ (n : ℕ). card < n) (sym (sensible .driving .sixteenLevels)) (k .present))
 
   -- from lines that are not settled to a contender that is restless
   restless : isSettled bus ≡ false → Restless bus memory ports
   unfolding settled everyContender
   restless moving =
-      let found = some-not (λ q. not (cardIn (bus .contenders) q) || eqb (looked (arbitrationOf bus) (bus .driven) q) (getD (bus .driven) q 0)) 16 moving in
-      let each = neither-of (not (cardIn (bus .contenders) (found .0))) (eqb (looked (arbitrationOf bus) (bus .driven) (found .0)) (getD (bus .driven) (found .0) 0)) (found .1 .1) in
-      let k : Contender (arbitrationOf bus) (found .0) = record { present = found .1 .0; contending = not-false _ (each .0) } in
-      (found .0, (k, λ same. eqb-false _ _ (each .1) (sym (look-leaves (found .0) k) ∙ same)))
+      let found = some-not (λ q. not (cardIn (bus .contenders) q) || stays q) 16 moving in
+      let card : ℕ = found .0 in
+      let each = neither-of (not (cardIn (bus .contenders) card)) (stays card) (found .1 .1) in
+      let k : Contender (arbitrationOf bus) card = record { present = found .1 .0; contending = not-false _ (each .0) } in
+      (card, (k, λ same. eqb-false _ _ (each .1) (sym (look-leaves card k) ∙ same)))
+    where
+      stays : ℕ → Bool
+      stays q = eqb (looked (arbitrationOf bus) (bus .driven) q) (getD (bus .driven) q 0)
 
   -- and back
   settled-rest : isSettled bus ≡ true → Restless bus memory ports → ⊥
@@ -200,17 +212,17 @@ pub acknowledge-refused : AcknowledgeRefused
 acknowledge-refused bus here memory ports right = go (true-or-false (isSettled bus))
   where
     Refused : Type 0
-    Refused = refusalOn bus (call acknowledge memory ports) ≡ Refusal.accepted → ⊥
+    Refused = refusalOn bus (call rightAcknowledge memory ports) ≡ Refusal.accepted → ⊥
 
     go : (isSettled bus ≡ true) ⊎ (isSettled bus ≡ false)
-        → (Refused ↔ Restless bus memory ports) × (Refused → refusalOn bus (call acknowledge memory ports) ≡ Refusal.unsettled)
+        → (Refused ↔ Restless bus memory ports) × (Refused → refusalOn bus (call rightAcknowledge memory ports) ≡ Refusal.unsettled)
     go (inl still) =
         let ok = accepted-settled bus here memory ports right still in (
           (λ refused. absurd (refused ok), λ moves. absurd (settled-rest bus here memory ports right still moves)),
           λ refused. absurd (refused ok),
         )
     go (inr moving) =
-        let eight : refusalOn bus (call acknowledge memory ports) ≡ Refusal.unsettled = acknowledge-refusal bus here memory ports right ∙ rw moving in (
+        let eight : refusalOn bus (call rightAcknowledge memory ports) ≡ Refusal.unsettled = acknowledge-refusal bus here memory ports right ∙ rw moving in (
           (λ refused. restless bus here memory ports right moving, λ moves ok. omega (arith, sym ok ∙ eight)),
           λ refused. eight,
         )

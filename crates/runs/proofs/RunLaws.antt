@@ -10,7 +10,7 @@ use Rattle.bus.specs.declared.state.Bus.{Bus}
 use Rattle.judgement.specs.declared.event.Event.{Event}
 use Rattle.events.specs.Step.{after}
 use Rattle.events.proofs.Stays.{sense-kept-by-events}
-use Rattle.runs.specs.Run.{Call, machineOf, busAfter, afterAll, isAccepted, acceptedOf, hasKind, speakersOf, looksIn, GoesOn, afterEvents, callsOf}
+use Rattle.runs.specs.Run.{Call, machineFor, busAfter, afterAll, isAccepted, acceptedOf, hasKind, speakersOf, looksIn, GoesOn, afterEvents, callsOf}
 use Rattle.runs.specs.Promises.{SenseInRuns, OneMemory}
 
 pub after-append : (bus : Bus) (calls more : List Call) → afterAll bus (calls ++ more) ≡ afterAll (afterAll bus calls) more
@@ -84,7 +84,7 @@ goes-on-parts bus calls more on =
 pub sense-in-runs : SenseInRuns
 unfolding afterAll
 sense-in-runs bus sense [] = sense
-sense-in-runs bus sense (c ∷ calls) = sense-in-runs (busAfter bus c) (sense-kept-by-events (machineOf bus c) (c .event) sense) calls
+sense-in-runs bus sense (c ∷ calls) = sense-in-runs (busAfter bus c) (sense-kept-by-events (machineFor bus c) (c .event) sense) calls
 
 pub one-memory : OneMemory
 unfolding afterAll afterEvents callsOf

@@ -10,7 +10,7 @@ use Rattle.phases.specs.Kind as Kind
 use Rattle.cards.specs.Cards.{cardIn}
 use Rattle.bus.specs.Refusal as Refusal
 use Rattle.bus.specs.Sense.{makesSense}
-use Rattle.bus.specs.State.{nobody, silent, stateOf, freeBus, linesOf}
+use Rattle.bus.specs.State.{nobody, silent, stateOf, chassis, freeBus, linesOf}
 use Rattle.bus.specs.Settle.{settleOf}
 use Rattle.bus.specs.declared.state.Bus.{Bus}
 use Rattle.bus.specs.Examples.{eightBit, contending, fourNineTen, first, again}
@@ -19,8 +19,8 @@ use Rattle.judgement.specs.Refusals.{pageAt}
 use Rattle.judgement.specs.declared.event.Event.{Event}
 use Rattle.events.specs.Machine.{Machine, machine}
 use Rattle.events.specs.Step.{refusalIn, answerTo}
-use Rattle.runs.specs.Run.{Call, call, refusalOn, busAfter, afterAll, looksIn, IsRound, GoesOn}
-use Rattle.runs.specs.Promises.{spoken, lookBy, acknowledge, Right}
+use Rattle.runs.specs.Run.{Call, call, refusalOn, busAfter, afterAll, looksIn, EachLooks, GoesOn}
+use Rattle.runs.specs.Promises.{spoken, lookBy, rightAcknowledge, Right}
 
 -- ---- Events and calls
 
@@ -61,7 +61,7 @@ refusalsOf bus (c ∷ calls) = refusalOn bus c ∷ refusalsOf (busAfter bus c) c
 -- Three rounds with other calls among them: the permanent master reads a byte; refused are an acknowledge (08), an idle card's look (07), a
 -- request (06), a reset and a look without memory (01), and a reset with a speaker (03).
 abbrev pub roundOne : List (Bool × Event)
-roundOne = lent (lookBy 4) ∷ lent (cycle Kind.byteRead 0 0) ∷ lent (lookBy 9) ∷ lent acknowledge ∷ lent (lookBy 10) ∷ []
+roundOne = lent (lookBy 4) ∷ lent (cycle Kind.byteRead 0 0) ∷ lent (lookBy 9) ∷ lent rightAcknowledge ∷ lent (lookBy 10) ∷ []
 
 abbrev pub roundTwo : List (Bool × Event)
 roundTwo = lent (lookBy 9) ∷ lent (lookBy 2) ∷ lent (lookBy 10) ∷ lent (request 0x0002) ∷ lent (lookBy 4) ∷ []
@@ -74,18 +74,18 @@ abbrev pub threeRounds : List (Bool × Event)
 threeRounds = roundOne ++ roundTwo ++ roundThree
 
 pub record ThreeRoundsFallShort (memory ports : List ℕ) : Type 0 where
-  pub one : IsRound fourNineTen (over memory ports roundOne)
-  pub two : IsRound (afterAll fourNineTen (over memory ports roundOne)) (over memory ports roundTwo)
-  pub three : IsRound (afterAll fourNineTen (over memory ports (roundOne ++ roundTwo))) (over memory ports roundThree)
+  pub one : EachLooks fourNineTen (over memory ports roundOne)
+  pub two : EachLooks (afterAll fourNineTen (over memory ports roundOne)) (over memory ports roundTwo)
+  pub three : EachLooks (afterAll fourNineTen (over memory ports (roundOne ++ roundTwo))) (over memory ports roundThree)
   pub goesOn : GoesOn fourNineTen (over memory ports threeRounds)
   pub refusals : refusalsOf fourNineTen (over memory ports threeRounds) ≡ 0 ∷ 0 ∷ 0 ∷ 8 ∷ 0 ∷ 0 ∷ 7 ∷ 0 ∷ 6 ∷ 0 ∷ 0 ∷ 1 ∷ 1 ∷ 3 ∷ 0 ∷ 0 ∷ []
   -- the lines show 11, and card 11 doesn't contend
   pub lines : linesOf (afterAll fourNineTen (over memory ports threeRounds)) ≡ 11
   pub nobodys : cardIn (fourNineTen .contenders) (linesOf (afterAll fourNineTen (over memory ports threeRounds))) ≡ false
-  pub refused : refusalOn (afterAll fourNineTen (over memory ports threeRounds)) (call acknowledge memory ports) ≡ Refusal.unsettled
+  pub refused : refusalOn (afterAll fourNineTen (over memory ports threeRounds)) (call rightAcknowledge memory ports) ≡ Refusal.unsettled
   -- the fourth round brings 10, and its grant
   pub fourth : linesOf (afterAll fourNineTen (over memory ports (threeRounds ++ looks again))) ≡ 10
-  pub granted : busAfter (afterAll fourNineTen (over memory ports (threeRounds ++ looks again))) (call acknowledge memory ports) .granted ≡ 10
+  pub granted : busAfter (afterAll fourNineTen (over memory ports (threeRounds ++ looks again))) (call rightAcknowledge memory ports) .granted ≡ 10
 
 abbrev pub ThreeRounds : Type 0
 ThreeRounds = (memory ports : List ℕ) → Right memory ports → ThreeRoundsFallShort memory ports
@@ -127,15 +127,16 @@ pub record Marked : Type 0 where
   pub m7 : (settleOf (contending 0x0001) (0 ∷ []) .answer ≡ Refusal.accepted) × (settleOf (contending 0x0001) (0 ∷ []) .looks ≡ 0)
   pub m8 : (settleOf (contending 0x0002) (1 ∷ 1 ∷ []) .answer ≡ Refusal.accepted) × (settleOf (contending 0x0002) (1 ∷ 1 ∷ []) .looks ≡ 1)
   -- there are such machines
-  pub rest : (memory ports : List ℕ) → Right memory ports → AtRest (machine (freeBus 0xFFFF eightBit) memory ports)
+  pub rest : (memory ports : List ℕ) → Right memory ports → AtRest (machine (freeBus (chassis 0xFFFF eightBit)) memory ports)
   pub m9 : (m : Machine) → AtRest m → pageAt (m .bus .pages) 0x000002 ≡ 1 → getD (m .memory) 0x000002 0 ≡ 0x12 → getD (m .memory) 0x000003 0 ≡ 0x34
       → (answerTo m (cycle Kind.wordRead 0x000002 0) .refusal ≡ Refusal.accepted)
       × ((answerTo m (cycle Kind.wordRead 0x000002 0) .datum ≡ 0x1234) × (answerTo m (cycle Kind.wordRead 0x000002 0) .cycles ≡ 2))
   -- whatever the page's code
   pub m10 : (m : Machine) → AtRest m
       → (refusalIn m (cycle Kind.wordRead 0x001001 0) ≡ Refusal.oddWord)
-      × ((datum : ℕ) → refusalIn m (cycle Kind.wordWrite 0x001001 datum) ≡ Refusal.oddWord)
-  pub m11 : (m : Machine) → AtRest m → Present m 0x001FFE → (datum : ℕ) → refusalIn m (cycle Kind.wordWrite 0x001FFE datum) ≡ Refusal.accepted
+      × ((datum : ℕ) → datum ≤ 0xFFFF → refusalIn m (cycle Kind.wordWrite 0x001001 datum) ≡ Refusal.oddWord)
+  pub m11 : (m : Machine) → AtRest m → Present m 0x001FFE → (datum : ℕ) → datum ≤ 0xFFFF
+      → refusalIn m (cycle Kind.wordWrite 0x001FFE datum) ≡ Refusal.accepted
   pub m12 : (m : Machine) → AtRest m
       → (Present m 0x00FFFF → refusalIn m (cycle Kind.byteRead 0x00FFFF 0) ≡ Refusal.accepted)
       × (refusalIn m (cycle Kind.byteRead 0x010000 0) ≡ Refusal.absent)

@@ -14,13 +14,14 @@ use Rattle.bus.specs.State.{arbitrationOf, linesOf, isSettled}
 use Rattle.bus.specs.Sense.{makesSense}
 use Rattle.bus.specs.Setup.{setupOf}
 use Rattle.bus.specs.declared.state.Bus.{Bus}
+use Rattle.bus.specs.declared.state.Chassis.{Chassis}
 use Rattle.judgement.specs.Table.{eventOf}
 use Rattle.judgement.specs.Refusals.{hasWrongBuffers}
 use Rattle.judgement.specs.declared.event.Event.{Event}
 use Rattle.events.specs.Machine.{Machine}
 use Rattle.events.specs.Step.{after, answerTo}
-use Rattle.events.specs.Promises.{Accepted}
-use Rattle.runs.specs.Run.{Call, call, refusalOn, busAfter, afterAll, acceptedOf, hasKind, IsRound, GoesOn, afterEvents, callsOf}
+use Rattle.events.specs.Promises.{AcceptedAs}
+use Rattle.runs.specs.Run.{Call, call, refusalOn, busAfter, afterAll, acceptedOf, hasKind, EachLooks, GoesOn, afterEvents, callsOf}
 
 -- ---- Sense
 
@@ -31,8 +32,8 @@ SenseInRuns = (bus : Bus) → makesSense bus ≡ true → (calls : List Call) �
 -- so from a bus that setup answered no run meets 02.
 abbrev pub NeverSenseless : Type 0
 NeverSenseless =
-    (fitted : ℕ) (pages : List ℕ) → length pages ≡ 16 → (calls : List Call) (c : Call)
-    → refusalOn (afterAll (setupOf fitted pages .bus) calls) c ≡ Refusal.senseless → ⊥
+    (chassis : Chassis) → length (chassis .pages) ≡ 16 → (calls : List Call) (c : Call)
+    → refusalOn (afterAll (setupOf chassis .bus) calls) c ≡ Refusal.senseless → ⊥
 
 -- Events that hand on one memory leave the bus that their calls leave.
 abbrev pub OneMemory : Type 0
@@ -48,8 +49,8 @@ NoOutputTo port (event ∷ events) = (event .kind ≡ Kind.output → event .add
 -- What was written to a port is read there, whatever else comes between.
 abbrev pub PortsHold : Type 0
 PortsHold =
-    (m : Machine) (written : Event) (events : List Event) (read : Event) → Accepted Kind.output m written → NoOutputTo (written .address) events
-    → Accepted Kind.input (afterEvents (after m written) events) read → read .address ≡ written .address
+    (m : Machine) (written : Event) (events : List Event) (read : Event) → AcceptedAs Kind.output m written → NoOutputTo (written .address) events
+    → AcceptedAs Kind.input (afterEvents (after m written) events) read → read .address ≡ written .address
     → answerTo (afterEvents (after m written) events) read .datum ≡ written .datum
 
 -- ---- Demand 3
@@ -62,8 +63,8 @@ abbrev pub lookBy : ℕ → Event
 lookBy card = spoken Kind.look card
 
 -- an acknowledge as it should be
-abbrev pub acknowledge : Event
-acknowledge = spoken Kind.acknowledge 0
+abbrev pub rightAcknowledge : Event
+rightAcknowledge = spoken Kind.acknowledge 0
 
 -- memory and ports have the right lengths
 abbrev pub Right : List ℕ → List ℕ → Type 0
@@ -76,14 +77,14 @@ pub record Arbitrates (bus : Bus) : Type 0 where
 
 -- the arbitration is still the same, its lines are settled at this number, and an acknowledge with right buffers is accepted next and grants
 -- that card
-pub record SettledAt (first bus : Bus) (card : ℕ) : Type 0 where
+pub record GrantsNext (first bus : Bus) (card : ℕ) : Type 0 where
   pub arbitrates : Arbitrates bus
   pub contenders : bus .contenders ≡ first .contenders
   pub lines : linesOf bus ≡ card
   pub settled : isSettled bus ≡ true
   pub next : (memory ports : List ℕ) → Right memory ports
-      → (refusalOn bus (call acknowledge memory ports) ≡ Refusal.accepted)
-      × ((busAfter bus (call acknowledge memory ports) .phase ≡ Phase.granted) × (busAfter bus (call acknowledge memory ports) .granted ≡ card))
+      → (refusalOn bus (call rightAcknowledge memory ports) ≡ Refusal.accepted)
+      × ((busAfter bus (call rightAcknowledge memory ports) .phase ≡ Phase.granted) × (busAfter bus (call rightAcknowledge memory ports) .granted ≡ card))
 
 -- Four stretches with an accepted look of each contender bring the lines to the highest contender, whatever other calls there are in them and
 -- after them, as long as no acknowledge and no reset is accepted.
@@ -91,12 +92,12 @@ abbrev pub FourRoundsOfEvents : Type 0
 FourRoundsOfEvents =
     (bus : Bus) → Arbitrates bus → (card : ℕ) → Highest (arbitrationOf bus) card → (r₁ r₂ r₃ r₄ further : List Call)
     → GoesOn bus (r₁ ++ r₂ ++ r₃ ++ r₄ ++ further)
-    → IsRound bus r₁ → IsRound (afterAll bus r₁) r₂ → IsRound (afterAll bus (r₁ ++ r₂)) r₃ → IsRound (afterAll bus (r₁ ++ r₂ ++ r₃)) r₄
-    → SettledAt bus (afterAll bus (r₁ ++ r₂ ++ r₃ ++ r₄ ++ further)) card
+    → EachLooks bus r₁ → EachLooks (afterAll bus r₁) r₂ → EachLooks (afterAll bus (r₁ ++ r₂)) r₃ → EachLooks (afterAll bus (r₁ ++ r₂ ++ r₃)) r₄
+    → GrantsNext bus (afterAll bus (r₁ ++ r₂ ++ r₃ ++ r₄ ++ further)) card
 
 -- Settled lines stay as they are, and so does the whole bus.
-abbrev pub SettledStays : Type 0
-SettledStays = (bus : Bus) → Arbitrates bus → isSettled bus ≡ true → (calls : List Call) → GoesOn bus calls → afterAll bus calls ≡ bus
+abbrev pub SettledBusStays : Type 0
+SettledBusStays = (bus : Bus) → Arbitrates bus → isSettled bus ≡ true → (calls : List Call) → GoesOn bus calls → afterAll bus calls ≡ bus
 
 -- there is a contender that would drive something else after its look, with these buffers
 abbrev pub Restless : Bus → List ℕ → List ℕ → Type 0
@@ -108,8 +109,8 @@ Restless bus memory ports =
 abbrev pub AcknowledgeRefused : Type 0
 AcknowledgeRefused =
     (bus : Bus) → Arbitrates bus → (memory ports : List ℕ) → Right memory ports
-    → ((refusalOn bus (call acknowledge memory ports) ≡ Refusal.accepted → ⊥) ↔ Restless bus memory ports)
-    × ((refusalOn bus (call acknowledge memory ports) ≡ Refusal.accepted → ⊥) → refusalOn bus (call acknowledge memory ports) ≡ Refusal.unsettled)
+    → ((refusalOn bus (call rightAcknowledge memory ports) ≡ Refusal.accepted → ⊥) ↔ Restless bus memory ports)
+    × ((refusalOn bus (call rightAcknowledge memory ports) ≡ Refusal.accepted → ⊥) → refusalOn bus (call rightAcknowledge memory ports) ≡ Refusal.unsettled)
 
 -- the accepted acknowledge in a run that granted this card, the highest contender there was, with no accepted acknowledge after it
 pub record GrantedBy (bus : Bus) (calls : List Call) (card : ℕ) : Type 0 where

@@ -23,14 +23,14 @@ pub record Call : Type 0 where
 abbrev pub call : Event → List ℕ → List ℕ → Call
 call event memory ports = record { event = event; memory = memory; ports = ports }
 
-abbrev pub machineOf : Bus → Call → Machine
-machineOf bus c = machine bus (c .memory) (c .ports)
+abbrev pub machineFor : Bus → Call → Machine
+machineFor bus c = machine bus (c .memory) (c .ports)
 
 abbrev pub refusalOn : Bus → Call → ℕ
-refusalOn bus c = refusalIn (machineOf bus c) (c .event)
+refusalOn bus c = refusalIn (machineFor bus c) (c .event)
 
 abbrev pub busAfter : Bus → Call → Bus
-busAfter bus c = after (machineOf bus c) (c .event) .bus
+busAfter bus c = after (machineFor bus c) (c .event) .bus
 
 unfoldable pub afterAll : Bus → List Call → Bus
 afterAll bus [] = bus
@@ -61,8 +61,8 @@ abbrev pub looksIn : Bus → List Call → List ℕ
 looksIn bus calls = speakersOf Kind.look (acceptedOf bus calls)
 
 -- each contender has at least one accepted look in this stretch of a run; other calls may stand anywhere in it
-abbrev pub IsRound : Bus → List Call → Type 0
-IsRound bus calls = isRound (arbitrationOf bus) (looksIn bus calls) ≡ true
+abbrev pub EachLooks : Bus → List Call → Type 0
+EachLooks bus calls = isRound (arbitrationOf bus) (looksIn bus calls) ≡ true
 
 -- the arbitration isn't ended: of the accepted events none is an acknowledge, and none a reset
 pub record GoesOn (bus : Bus) (calls : List Call) : Type 0 where

@@ -6,7 +6,7 @@ use Rattle.words.specs.First.{firstOf, leastBelow}
 use Rattle.lines.specs.Look.{look}
 use Rattle.lines.specs.Arbitration.{everyContender, shown, looked, settled, afterLook}
 use Rattle.cards.specs.Cards.{someCard, isWithin}
-use Rattle.bus.specs.Sense.{drivingFits, makesSense}
+use Rattle.bus.specs.Sense.{drivingFits, standingFits, makesSense}
 use Rattle.bus.specs.Steps.{afterLooksOf}
 use Rattle.bus.specs.Settle.{settledAfter, leadingLooks, neverSettles, settleRefusal, settleOf}
 use Rattle.judgement.specs.Judge.{refusalOf}
@@ -63,7 +63,8 @@ step-calls = record {
 }
 
 pub settle-calls : SettleCalls
-unfolding busIn stateBytes allBelow orBelow look everyContender shown looked settled afterLook someCard isWithin afterLooksOf firstOf leastBelow everyListed drivingFits makesSense settledAfter leadingLooks neverSettles settleRefusal settleOf
+unfolding busIn stateBytes allBelow orBelow look everyContender shown looked settled afterLook someCard isWithin afterLooksOf firstOf leastBelow
+    everyListed drivingFits standingFits makesSense settledAfter leadingLooks neverSettles settleRefusal settleOf
 settle-calls = record {
   answers = refl;
   counts = refl;

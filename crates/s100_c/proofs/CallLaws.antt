@@ -14,6 +14,7 @@ use Rattle.bus.specs.Refusal.{wrongLength}
 use Rattle.bus.specs.Refusal as Refusal
 use Rattle.bus.specs.Sense.{makesSense}
 use Rattle.bus.specs.declared.state.Bus.{Bus}
+use Rattle.bus.specs.declared.state.Chassis.{Chassis}
 use Rattle.judgement.specs.Refusals.{hasWrongBuffers}
 use Rattle.judgement.specs.Judge.{refusalOf}
 use Rattle.judgement.specs.declared.event.Event.{Event}
@@ -42,7 +43,8 @@ pub places-misfit : (given : Lent) → placesFit given ≡ false → stepFits gi
 places-misfit given misplaced = rw misplaced refl
 
 -- what is answered and left, by these
-pub placed-answers : (given : Lent) (event : Event) {r : ℕ} → placesFit given ≡ true → r ≡ answerTo (machineIn given) event .refusal → r ≡ stepAnswers given event
+pub placed-answers : (given : Lent) (event : Event) {r : ℕ} → placesFit given ≡ true → r ≡ answerTo (machineIn given) event .refusal
+    → r ≡ stepAnswers given event
 unfolding stepAnswers
 placed-answers given event places e = then-pick wrongLength places e
 
@@ -50,7 +52,8 @@ pub misplaced-answers : (given : Lent) (event : Event) → placesFit given ≡ f
 unfolding stepAnswers
 misplaced-answers given event misplaced = else-pick _ misplaced refl
 
-pub fitting-leaves : (given : Lent) (event : Event) {left : Lent} → stepFits given ≡ true → left ≡ written given event → left ≡ stepLeaves given event
+pub fitting-leaves : (given : Lent) (event : Event) {left : Lent} → stepFits given ≡ true → left ≡ written given event
+    → left ≡ stepLeaves given event
 unfolding stepLeaves
 fitting-leaves given event fits e = then-pick given fits e
 
@@ -76,21 +79,15 @@ pub step-written : (given : Lent) (event : Event) (bus : Bus) (s : Stepped) (sta
     → ports ≡ after (machine bus (given .memory) (given .ports)) event .ports
     → answer ≡ answerBytes (s .answer)
     → (s .answer .refusal ≡ answerTo (machineIn given) event .refusal) × (lent state memory ports answer ≡ written given event)
-step-written given event bus s state memory ports answer decoded taken stateLeft memoryLeft portsLeft answerLeft = (
-  ap (λ (x : Stepped). x .answer .refusal) taken ∙ ap (λ (b : Bus). answerTo (machine b (given .memory) (given .ports)) event .refusal) decoded,
-  ap (λ (l : List ℕ). lent l memory ports answer) (stateLeft ∙ ap (λ (x : Stepped). stateBytes (x .bus)) taken)
-      ∙ ap (λ (l : List ℕ). lent (stateBytes (after (machine bus (given .memory) (given .ports)) event .bus)) l ports answer) memoryLeft
-      ∙ ap (λ (l : List ℕ). lent (stateBytes (after (machine bus (given .memory) (given .ports)) event .bus)) (after (machine bus (given .memory) (given .ports)) event .memory) l answer) portsLeft
-      ∙ ap (λ (l : List ℕ). lent (stateBytes (after (machine bus (given .memory) (given .ports)) event .bus)) (after (machine bus (given .memory) (given .ports)) event .memory) (after (machine bus (given .memory) (given .ports)) event .ports) l) (answerLeft ∙ ap (λ (x : Stepped). answerBytes (x .answer)) taken)
-      ∙ ap (λ (b : Bus). lent (stateBytes (after (machine b (given .memory) (given .ports)) event .bus)) (after (machine b (given .memory) (given .ports)) event .memory) (after (machine b (given .memory) (given .ports)) event .ports) (answerBytes (answerTo (machine b (given .memory) (given .ports)) event))) decoded,
-)
+step-written given event bus s state memory ports answer decoded taken stateLeft memoryLeft portsLeft answerLeft =
+    rw (stateLeft, memoryLeft, portsLeft, answerLeft, taken, decoded) (refl, refl)
 
 -- ---- Setup
 
-pub setup-fits : (pages state : List ℕ) → setupFits pages state ≡ true → (length pages ≡ 16) × (length state ≡ stateSize)
-setup-fits pages state fits =
-    let both = and-eq-true-iff (eqb (length pages) 16) (isState state) .0 fits in
-    (eqb-true (length pages) 16 (both .0), eqb-true (length state) stateSize (both .1))
+pub setup-fits : (given : Chassis) (state : List ℕ) → setupFits given state ≡ true → (length (given .pages) ≡ 16) × (length state ≡ stateSize)
+setup-fits given state fits =
+    let both = and-eq-true-iff (eqb (length (given .pages)) 16) (isState state) .0 fits in
+    (eqb-true (length (given .pages)) 16 (both .0), eqb-true (length state) stateSize (both .1))
 
 -- ---- Fields
 

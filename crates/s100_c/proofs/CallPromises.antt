@@ -13,11 +13,10 @@ use Rattle.words.proofs.TestLaws.{true-or-false, then-pick}
 use Rattle.bus.specs.Sense.{makesSense}
 use Rattle.bus.specs.Setup.{setupOf}
 use Rattle.bus.specs.Settle.{settleRefusal, settleOf}
-use Rattle.bus.specs.Method.{settle}
 use Rattle.bus.specs.declared.state.Bus.{Bus}
 use Rattle.bus.proofs.SenseLaws.{sense-means}
 use Rattle.bus.proofs.SetUp.{setup-makes-sense}
-use Rattle.bus.proofs.Kept.{sense-kept}
+use Rattle.bus.proofs.Kept.{sense-kept-by-settle}
 use Rattle.bus.proofs.Settled.{settle-refused-keeps}
 use Rattle.judgement.specs.Refusals.{hasWrongBuffers}
 use Rattle.judgement.specs.declared.event.Event.{Event}
@@ -29,8 +28,21 @@ use Rattle.events.proofs.Stays.{sense-kept-by-events}
 use Rattle.s100_c.specs.Layout.{stateSize, isState, stateBytes, busIn, isAnswer, answerIn}
 use Rattle.s100_c.specs.Calls.{Lent, lent, machineIn, placesFit, written, stepLeaves, settleLeaves}
 use Rattle.runs.specs.Run.{busAfter, afterAll}
-use Rattle.s100_c.specs.Run.{Placed, stateAfter, bytesAfter, taken}
-use Rattle.s100_c.specs.Promises.{Whole, SetupMisfits, StepMisplaced, StepMisfits, SettleMisfits, SetupIsTheSetup, StepIsTheStep, AnswerIsTheAnswer, SettleIsTheSettle, RunIsTheRun, StepRefusedKeeps, SettleRefusedKeepsBytes}
+use Rattle.s100_c.specs.Run.{Placed, stateAfter, bytesAfter, callsTaken}
+use Rattle.s100_c.specs.Promises.{
+  Whole,
+  SetupMisfits,
+  StepMisplaced,
+  StepMisfits,
+  SettleMisfits,
+  SetupIsTheSetup,
+  StepIsTheStep,
+  AnswerIsTheAnswer,
+  SettleIsTheSettle,
+  RunIsTheRun,
+  StepRefusedKeeps,
+  SettleRefusedKeepsBytes,
+}
 use Rattle.s100_c.proofs.CallLaws.{
   setup-fits,
   places-fit,
@@ -44,12 +56,12 @@ use Rattle.s100_c.proofs.CallLaws.{
   refused-first,
   first-answer,
 }
-use Rattle.s100_c.proofs.ReadBack.{state-reads-back, sensible-reads-back, bytes-whole, bytes-read-back, answer-reads-back}
+use Rattle.s100_c.proofs.ReadBack.{state-reads-back, sensible-reads-back, bytes-whole, bytes-read-back, answer-bytes-read-back}
 
 -- ---- Wrong lengths
 
 pub setup-misfits : SetupMisfits
-setup-misfits fitted pages state misfit = rw misfit (refl, refl)
+setup-misfits given state misfit = rw misfit (refl, refl)
 
 pub step-misplaced : StepMisplaced
 step-misplaced given event misplaced = (
@@ -69,7 +81,7 @@ settle-misfits state cards looks misfit = rw misfit (refl, (refl, refl))
 -- ---- Sixteen pages and levels stay sixteen
 
 sensible-whole : (bus : Bus) → makesSense bus ≡ true → Whole bus
-sensible-whole bus sense = let s = sense-means bus .0 sense in (s .sixteenPages, s .sixteenLevels)
+sensible-whole bus sense = let s = sense-means bus .0 sense in (s .chassis .sixteenPages, s .driving .sixteenLevels)
 
 not-senseless : (b : Bool) → not b ≡ false → b ≡ true
 not-senseless true e = refl
@@ -91,15 +103,15 @@ settle-senseless bus cards senseless = rw senseless refl
 settle-whole : (bus : Bus) (cards : List ℕ) → Whole bus → Whole (settleOf bus cards .bus)
 settle-whole bus cards whole =
     ⊎-elim
-    (λ sense. sensible-whole (settleOf bus cards .bus) (sense-kept (settle cards) bus sense))
+    (λ sense. sensible-whole (settleOf bus cards .bus) (sense-kept-by-settle bus cards sense))
     (λ senseless. subst Whole (sym (settle-senseless bus cards senseless)) whole)
     (true-or-false (makesSense bus))
 
 -- ---- A call is the model's
 
 pub setup-is-the-setup : SetupIsTheSetup
-setup-is-the-setup fitted pages state fits =
-    let back = sensible-reads-back (setupOf fitted pages .bus) (setup-makes-sense fitted pages (setup-fits pages state fits .0)) .1 in
+setup-is-the-setup given state fits =
+    let back = sensible-reads-back (setupOf given .bus) (setup-makes-sense given (setup-fits given state fits .0)) .1 in
     rw fits (refl, back)
 
 places-whole : (given : Lent) → placesFit given ≡ true → Whole (busIn (given .state))
@@ -120,13 +132,14 @@ step-is-the-step given event places = (
       (λ fits.
       let m = machineIn given in
       ap machineIn (step-leaves given event places fits)
-      ∙ ap (λ (b : Bus). machine b (after m event .memory) (after m event .ports)) (state-reads-back (after m event .bus) (after-whole m event (places-whole given places)) .1))
+      ∙ ap (λ (b : Bus). machine b (after m event .memory) (after m event .ports))
+      (state-reads-back (after m event .bus) (after-whole m event (places-whole given places)) .1))
       (true-or-false (hasWrongBuffers (given .memory) (given .ports))),
 )
 
 pub answer-is-the-answer : AnswerIsTheAnswer
 answer-is-the-answer given event places fits =
-    ap (λ (l : Lent). answerIn (l .answer)) (step-leaves given event places fits) ∙ answer-reads-back (answerTo (machineIn given) event) .1
+    ap (λ (l : Lent). answerIn (l .answer)) (step-leaves given event places fits) ∙ answer-bytes-read-back (answerTo (machineIn given) event) .1
 
 pub settle-is-the-settle : SettleIsTheSettle
 settle-is-the-settle state cards looks fits =
@@ -159,18 +172,18 @@ lost-call c state fits none =
     ap (λ (l : Lent). l .state) (step-misplaced given (c .call .event) places .1)
 
 pub run-is-the-run : RunIsTheRun
-unfolding bytesAfter taken afterAll
+unfolding bytesAfter callsTaken afterAll
 run-is-the-run [] state fits = (fits, refl)
 run-is-the-run (c ∷ calls) state fits =
     ⊎-elim
     (λ place.
     let next = taken-call c state fits place in
     let later = run-is-the-run calls (stateAfter state c) (next .0) in
-    (later .0, rw place (later .1 ∙ ap (λ (b : Bus). afterAll b (taken calls)) (next .1))))
+    (later .0, rw place (later .1 ∙ ap (λ (b : Bus). afterAll b (callsTaken calls)) (next .1))))
     (λ none.
     let same = lost-call c state fits none in
     let later = run-is-the-run calls (stateAfter state c) (ap isState same ∙ fits) in
-    (later .0, rw none (later .1 ∙ ap (λ (l : List ℕ). afterAll (busIn l) (taken calls)) same)))
+    (later .0, rw none (later .1 ∙ ap (λ (l : List ℕ). afterAll (busIn l) (callsTaken calls)) same)))
     (true-or-false (isAnswer (c .answer)))
 
 -- ---- Refused
@@ -190,7 +203,8 @@ step-refused-keeps given event bytes refused = ⊎-elim inPlace (λ misplaced. s
         (λ misfit. same (step-misfits given event places misfit .1))
         (λ fits.
         let done = step-leaves given event places fits in
-        let kept = refused-keeps (machineIn given) event (λ ok. refused (sym (placed-answers given event places refl) ∙ answers-refusal (machineIn given) event ∙ ok)) in (
+        let m = machineIn given in
+        let kept = refused-keeps m event (λ ok. refused (sym (placed-answers given event places refl) ∙ answers-refusal m event ∙ ok)) in (
           ap (λ (l : Lent). l .state) done
               ∙ ap (λ (m : Machine). stateBytes (m .bus)) kept
               ∙ bytes-read-back (given .state) (places-fit given places .0) bytes .1,

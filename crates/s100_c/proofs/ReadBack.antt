@@ -1,132 +1,103 @@
 -- What is put is read back, and what is read is put back.
-use mathlib.Core.Path.{_≡_, refl, sym, ap, ap₂, _∙_}
-use mathlib.Core.List.{List, [], _∷_, _++_, append-assoc}
-use Prim.Native.Nat.{ℕ, _+_, _*_, _/_, _%_, _<_}
+use mathlib.Core.Path.{_≡_, refl, sym, ap, ap₂, subst, _∙_}
+use mathlib.Core.List.{List, [], _∷_}
+use Prim.Native.Nat.{ℕ, _+_, _*_, _/_, _%_, _<_, _≤_}
 use native.Mathlib.Omega.{arith}
-use lib.ListN.{length, getD, take, drop, length-drop, take-append-drop}
-use lib.Seq.{length-take-le, drop-cons, drop-drop, drop-length, drop-append-add, take-at, getD-append-add}
-use Rattle.bus.specs.State.{stateOf}
+use lib.ListN.{length, getD, take, drop, length-drop}
+use lib.Seq.{length-take-le, getD-take, getD-drop}
+use Rattle.words.specs.Parts.{widthsOf, partsOf, laid, cut}
+use Rattle.words.proofs.PartLaws.{laid-long, cut-laid, laid-cut}
 use Rattle.bus.specs.declared.state.Bus.{Bus}
 use Rattle.bus.proofs.SenseLaws.{sense-means}
-use Rattle.s100_c.specs.Layout.{twoBytes, sixteenAt, stateSize, stateBytes, busIn, answerBytes, answerIn}
-use Rattle.s100_c.specs.Promises.{Whole, StateReadsBack, SensibleReadsBack, BytesReadBack, AnswerReadsBack}
-use Rattle.s100_c.proofs.LayoutLaws.{state-long}
+use Rattle.s100_c.specs.Layout.{
+  twoBytes,
+  byteOfPart,
+  wordOfPart,
+  stateLayout,
+  stateSize,
+  stateBytes,
+  busFrom,
+  busIn,
+  answerLayout,
+  answerBytes,
+  answerFrom,
+  answerIn,
+}
+use Rattle.s100_c.specs.Promises.{Whole, AreBytes, StateReadsBack, SensibleReadsBack, BytesReadBack, AnswerBytesReadBack}
+use Rattle.s100_c.proofs.LayoutLaws.{stateAt, state-sized, state-long, answer-sized}
 
 -- ---- Put, then read
 
--- the levels and what is behind them; the pages and what is behind them
-abbrev fromDriven : Bus → List ℕ
-fromDriven bus = bus .driven ++ bus .granted ∷ []
+word-back : (n : ℕ) → wordOfPart (twoBytes n) ≡ n
+word-back n = omega arith
 
-abbrev fromPages : Bus → List ℕ
-fromPages bus = bus .pages ++ (bus .phase ∷ bus .contenders / 0x100 ∷ bus .contenders % 0x100 ∷ fromDriven bus)
-
--- the bytes from behind
-from-front : (bus : Bus) → stateBytes bus ≡ bus .fitted / 0x100 ∷ bus .fitted % 0x100 ∷ fromPages bus
-unfolding stateBytes
-from-front bus =
-    ap (λ (l : List ℕ). bus .fitted / 0x100 ∷ bus .fitted % 0x100 ∷ l) (
-    append-assoc (bus .pages ++ bus .phase ∷ twoBytes (bus .contenders)) (bus .driven) (bus .granted ∷ [])
-    ∙ append-assoc (bus .pages) (bus .phase ∷ twoBytes (bus .contenders)) (fromDriven bus))
-
--- what stands k places behind a part of n entries
-getD-behind : (l r : List ℕ) (n k : ℕ) → length l ≡ n → getD (l ++ r) (n + k) 0 ≡ getD r k 0
-getD-behind l r n k e = ap (λ (m : ℕ). getD (l ++ r) (m + k) 0) (sym e) ∙ getD-append-add l r k 0
-
-drop-behind : (l r : List ℕ) (n k : ℕ) → length l ≡ n → drop (n + k) (l ++ r) ≡ drop k r
-drop-behind l r n k e = ap (λ (m : ℕ). drop (m + k) (l ++ r)) (sym e) ∙ drop-append-add l r k
-
-same-fields : {fitted fitted′ phase phase′ contenders contenders′ granted granted′ : ℕ} {pages pages′ driven driven′ : List ℕ}
-    → fitted ≡ fitted′ → pages ≡ pages′ → phase ≡ phase′ → contenders ≡ contenders′ → driven ≡ driven′ → granted ≡ granted′
-    → stateOf fitted pages phase contenders driven granted ≡ stateOf fitted′ pages′ phase′ contenders′ driven′ granted′
-same-fields a b c d e f = rw (a, b, c, d, e, f) refl
-
--- the fields, from the front
-fields-back : (bus : Bus) → Whole bus → busIn (bus .fitted / 0x100 ∷ bus .fitted % 0x100 ∷ fromPages bus) ≡ bus
-unfolding busIn
-fields-back bus whole =
-    let rest = bus .phase ∷ bus .contenders / 0x100 ∷ bus .contenders % 0x100 ∷ fromDriven bus in
-    same-fields
-    (omega arith)
-    (take-at (bus .pages) rest 16 (whole .0))
-    (getD-behind (bus .pages) rest 16 0 (whole .0))
-    (ap₂ (λ (high low : ℕ). high * 0x100 + low) (getD-behind (bus .pages) rest 16 1 (whole .0)) (getD-behind (bus .pages) rest 16 2 (whole .0)) ∙ omega arith)
-    (ap (take 16) (drop-behind (bus .pages) rest 16 3 (whole .0)) ∙ take-at (bus .driven) (bus .granted ∷ []) 16 (whole .1))
-    (getD-behind (bus .pages) rest 16 19 (whole .0) ∙ getD-behind (bus .driven) (bus .granted ∷ []) 16 0 (whole .1))
+-- the fields from their parts
+fields-back : (bus : Bus) → busFrom (partsOf stateLayout bus) ≡ bus
+fields-back bus = rw (word-back (bus .fitted), word-back (bus .contenders)) refl
 
 pub state-reads-back : StateReadsBack
-state-reads-back bus whole = (state-long bus (whole .0) (whole .1), ap busIn (from-front bus) ∙ fields-back bus whole)
+unfolding stateBytes busIn
+state-reads-back bus whole =
+    let sized = state-sized bus (whole .0) (whole .1) in
+    (laid-long bus stateLayout sized, ap busFrom (cut-laid bus stateLayout sized) ∙ fields-back bus)
 
 pub sensible-reads-back : SensibleReadsBack
-sensible-reads-back bus sense = let s = sense-means bus .0 sense in state-reads-back bus (s .sixteenPages, s .sixteenLevels)
+sensible-reads-back bus sense = let s = sense-means bus .0 sense in state-reads-back bus (s .chassis .sixteenPages, s .driving .sixteenLevels)
 
-pub answer-reads-back : AnswerReadsBack
+pub answer-bytes-read-back : AnswerBytesReadBack
 unfolding answerBytes answerIn
-answer-reads-back a = (
-  refl,
-  let datum : a .datum / 0x100 * 0x100 + a .datum % 0x100 ≡ a .datum = omega arith in ap (λ (n : ℕ). record {
-    refusal = a .refusal;
-    phase = a .phase;
-    granted = a .granted;
-    lines = a .lines;
-    signals = a .signals;
-    status = a .status;
-    cycles = a .cycles;
-    datum = n;
-  }) datum,
+answer-bytes-read-back a = (
+  laid-long a answerLayout (answer-sized a),
+  ap answerFrom (cut-laid a answerLayout (answer-sized a)) ∙ rw (word-back (a .datum)) refl,
 )
 
 -- ---- Read, then put
 
--- sixteen entries and what is behind them
-split-sixteen : (bytes : List ℕ) (at next : ℕ) → at + 16 ≡ next → drop at bytes ≡ sixteenAt at bytes ++ drop next bytes
-split-sixteen bytes at next e =
-    sym (take-append-drop 16 (drop at bytes))
-    ∙ ap (λ (l : List ℕ). sixteenAt at bytes ++ l) (drop-drop 16 at bytes ∙ ap (λ (k : ℕ). drop k bytes) e)
+byte-again : (bytes : List ℕ) → length bytes ≡ 1 → byteOfPart bytes ∷ [] ≡ bytes
+byte-again [] size = absurd (omega (arith, size))
+byte-again (b ∷ []) size = refl
+byte-again (b ∷ c ∷ more) size = absurd (omega (arith, size))
 
--- bytes put back as they were read, the low ones below 100h
-put-back : (b₀ b₁ b₁₈ b₁₉ b₂₀ b₃₇ : ℕ) (pages driven : List ℕ) → b₁ < 0x100 → b₂₀ < 0x100
-    → stateBytes (stateOf (b₀ * 0x100 + b₁) pages b₁₈ (b₁₉ * 0x100 + b₂₀) driven b₃₇)
-    ≡ b₀ ∷ b₁ ∷ (pages ++ (b₁₈ ∷ b₁₉ ∷ b₂₀ ∷ (driven ++ b₃₇ ∷ [])))
-put-back b₀ b₁ b₁₈ b₁₉ b₂₀ b₃₇ pages driven low low′ =
-    let a : (b₀ * 0x100 + b₁) / 0x100 ≡ b₀ = omega (arith, low) in
-    let b : (b₀ * 0x100 + b₁) % 0x100 ≡ b₁ = omega (arith, low) in
-    let c : (b₁₉ * 0x100 + b₂₀) / 0x100 ≡ b₁₉ = omega (arith, low′) in
-    let d : (b₁₉ * 0x100 + b₂₀) % 0x100 ≡ b₂₀ = omega (arith, low′) in
-    from-front (stateOf (b₀ * 0x100 + b₁) pages b₁₈ (b₁₉ * 0x100 + b₂₀) driven b₃₇) ∙ rw (a, b, c, d) refl
+word-again : (bytes : List ℕ) → length bytes ≡ 2 → getD bytes 1 0 < 0x100 → twoBytes (wordOfPart bytes) ≡ bytes
+word-again [] size low = absurd (omega (arith, size))
+word-again (b ∷ []) size low = absurd (omega (arith, size))
+word-again (b ∷ c ∷ []) size low =
+    let high : (b * 0x100 + c) / 0x100 ≡ b = omega (arith, low) in
+    let rest : (b * 0x100 + c) % 0x100 ≡ c = omega (arith, low) in
+    rw (high, rest) refl
+word-again (b ∷ c ∷ d ∷ more) size low = absurd (omega (arith, size))
 
--- the bytes one by one and sixteen by sixteen
-in-parts : (bytes : List ℕ) → length bytes ≡ stateSize
-    → bytes
-    ≡ getD bytes 0 0 ∷ getD bytes 1 0 ∷ (sixteenAt 2 bytes ++ (getD bytes 18 0 ∷ getD bytes 19 0 ∷ getD bytes 20 0 ∷ (sixteenAt 21 bytes ++ getD bytes 37 0 ∷ [])))
-in-parts bytes size =
-    drop-cons bytes 0 0 (omega (arith, size))
-    ∙ ap (λ (l : List ℕ). getD bytes 0 0 ∷ l) (
-    drop-cons bytes 1 0 (omega (arith, size))
-    ∙ ap (λ (l : List ℕ). getD bytes 1 0 ∷ l) (
-    split-sixteen bytes 2 18 refl
-    ∙ ap (λ (l : List ℕ). sixteenAt 2 bytes ++ l) (
-    drop-cons bytes 18 0 (omega (arith, size))
-    ∙ ap (λ (l : List ℕ). getD bytes 18 0 ∷ l) (
-    drop-cons bytes 19 0 (omega (arith, size))
-    ∙ ap (λ (l : List ℕ). getD bytes 19 0 ∷ l) (
-    drop-cons bytes 20 0 (omega (arith, size))
-    ∙ ap (λ (l : List ℕ). getD bytes 20 0 ∷ l) (
-    split-sixteen bytes 21 37 refl
-    ∙ ap (λ (l : List ℕ). sixteenAt 21 bytes ++ l) (
-    drop-cons bytes 37 0 (omega (arith, size)) ∙ ap (λ (l : List ℕ). getD bytes 37 0 ∷ l) (ap (λ (k : ℕ). drop k bytes) (sym size) ∙ drop-length bytes))))))))
+-- so many bytes from a place on
+long-from : (at count : ℕ) (bytes : List ℕ) → at + count ≤ length bytes → length (take count (drop at bytes)) ≡ count
+long-from at count bytes room = length-take-le count (drop at bytes) (omega (arith, room, length-drop at bytes))
+
+-- the second of two bytes from a place on is a byte
+low-from : (at : ℕ) (bytes : List ℕ) → AreBytes bytes → at + 2 ≤ length bytes → getD (take 2 (drop at bytes)) 1 0 < 0x100
+low-from at bytes small room =
+    subst (λ (b : ℕ). b < 0x100) (sym (getD-take 2 (drop at bytes) 1 0 (omega arith) ∙ getD-drop at bytes 1 0)) (small (at + 1) (omega (arith, room)))
+
+word-from : (at : ℕ) (bytes : List ℕ) → AreBytes bytes → at + 2 ≤ length bytes → twoBytes (wordOfPart (take 2 (drop at bytes))) ≡ take 2 (drop at bytes)
+word-from at bytes small room = word-again (take 2 (drop at bytes)) (long-from at 2 bytes room) (low-from at bytes small room)
+
+byte-from : (at : ℕ) (bytes : List ℕ) → at + 1 ≤ length bytes → byteOfPart (take 1 (drop at bytes)) ∷ [] ≡ take 1 (drop at bytes)
+byte-from at bytes room = byte-again (take 1 (drop at bytes)) (long-from at 1 bytes room)
 
 pub bytes-whole : (bytes : List ℕ) → length bytes ≡ stateSize → Whole (busIn bytes)
 unfolding busIn
-bytes-whole bytes size = (
-  length-take-le 16 (drop 2 bytes) (omega (arith, size, length-drop 2 bytes)),
-  length-take-le 16 (drop 21 bytes) (omega (arith, size, length-drop 21 bytes)),
-)
+bytes-whole bytes size = (long-from (stateAt 1) 16 bytes (omega (arith, size)), long-from (stateAt 4) 16 bytes (omega (arith, size)))
+
+-- each part, read and put, is what it was
+parts-again : (bytes : List ℕ) → length bytes ≡ stateSize → AreBytes bytes
+    → partsOf stateLayout (busFrom (cut (widthsOf stateLayout) bytes)) ≡ cut (widthsOf stateLayout) bytes
+parts-again bytes size small =
+    rw (
+      word-from (stateAt 0) bytes small (omega (arith, size)),
+      byte-from (stateAt 2) bytes (omega (arith, size)),
+      word-from (stateAt 3) bytes small (omega (arith, size)),
+      byte-from (stateAt 5) bytes (omega (arith, size)),
+    ) refl
 
 pub bytes-read-back : BytesReadBack
-unfolding busIn
-bytes-read-back bytes size small = (
-  bytes-whole bytes size,
-  put-back (getD bytes 0 0) (getD bytes 1 0) (getD bytes 18 0) (getD bytes 19 0) (getD bytes 20 0) (getD bytes 37 0) (sixteenAt 2 bytes) (sixteenAt 21 bytes) (small 1 (omega (arith, size))) (small 20 (omega (arith, size)))
-      ∙ sym (in-parts bytes size),
-)
+unfolding stateBytes busIn
+bytes-read-back bytes size small =
+    (bytes-whole bytes size, ap laid (parts-again bytes size small) ∙ laid-cut (widthsOf stateLayout) bytes size)

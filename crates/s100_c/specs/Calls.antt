@@ -10,6 +10,7 @@ use Rattle.bus.specs.Sense.{makesSense}
 use Rattle.bus.specs.Setup.{setupOf}
 use Rattle.bus.specs.Settle.{settleOf}
 use Rattle.bus.specs.declared.state.Bus.{Bus}
+use Rattle.bus.specs.declared.state.Chassis.{Chassis}
 use Rattle.judgement.specs.Refusals.{hasWrongBuffers}
 use Rattle.judgement.specs.declared.event.Event.{Event}
 use Rattle.events.specs.Machine.{Machine, machine}
@@ -18,14 +19,14 @@ use Rattle.s100_c.specs.Layout.{isState, stateBytes, busIn, isAnswer, an
 
 -- ---- Setup
 
-abbrev pub setupFits : List ℕ → List ℕ → Bool
-setupFits pages state = eqb (length pages) 16 && isState state
+abbrev pub setupFits : Chassis → List ℕ → Bool
+setupFits given state = eqb (length (given .pages)) 16 && isState state
 
-abbrev pub setupAnswers : ℕ → List ℕ → List ℕ → ℕ
-setupAnswers fitted pages state = cond (setupFits pages state) (setupOf fitted pages .answer) wrongLength
+abbrev pub setupAnswers : Chassis → List ℕ → ℕ
+setupAnswers given state = cond (setupFits given state) (setupOf given .answer) wrongLength
 
-abbrev pub setupLeaves : ℕ → List ℕ → List ℕ → List ℕ
-setupLeaves fitted pages state = cond (setupFits pages state) (stateBytes (setupOf fitted pages .bus)) state
+abbrev pub setupLeaves : Chassis → List ℕ → List ℕ
+setupLeaves given state = cond (setupFits given state) (stateBytes (setupOf given .bus)) state
 
 -- ---- Step
 

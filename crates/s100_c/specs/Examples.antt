@@ -1,18 +1,18 @@
 -- States, answers and calls written out, byte by byte.
-use Prim.Native.Nat.{ℕ}
+use Prim.Native.Nat.{ℕ, _-_}
 use mathlib.Core.Path.{_≡_}
 use mathlib.Core.Bool.{false}
 use mathlib.Core.List.{List, [], _∷_, _++_}
 use lib.ListN.{replicate}
 use Rattle.bus.specs.Refusal.{wrongLength}
 use Rattle.bus.specs.Refusal as Refusal
-use Rattle.bus.specs.State.{stateOf, linesOf}
+use Rattle.bus.specs.State.{chassis, stateOf, linesOf}
 use Rattle.bus.specs.declared.state.Bus.{Bus}
 use Rattle.phases.specs.Kind as Kind
 use Rattle.judgement.specs.Table.{eventOf}
 use Rattle.judgement.specs.declared.event.Event.{Event}
 use Rattle.events.specs.declared.answers.Answer.{Answer}
-use Rattle.s100_c.specs.Layout.{stateBytes, busIn, answerBytes, answerIn}
+use Rattle.s100_c.specs.Layout.{stateSize, stateBytes, busIn, answerSize, answerBytes, answerIn}
 use Rattle.s100_c.specs.Calls.{
   setupAnswers,
   setupLeaves,
@@ -82,18 +82,18 @@ pub record FieldsInPlace : Type 0 where
 -- ---- Calls, on a buffer with other bytes in it
 
 abbrev pub used : List ℕ
-used = replicate 38 0x55
+used = replicate stateSize 0x55
 
 -- 01's setup line 000A1200000000000000; a page code 3; fifteen pages; a buffer that is a byte short
 pub record SetupCalls : Type 0 where
-  pub answers : setupAnswers 0x000A (1 ∷ 2 ∷ [] ++ replicate 14 0) used ≡ Refusal.accepted
-  pub leaves : setupLeaves 0x000A (1 ∷ 2 ∷ [] ++ replicate 14 0) used ≡ 0x00 ∷ 0x0A ∷ 1 ∷ 2 ∷ [] ++ replicate 33 0 ++ 0xFF ∷ []
-  pub refused : setupAnswers 0x000A (3 ∷ [] ++ replicate 15 0) used ≡ Refusal.badPage
-  pub emptied : setupLeaves 0x000A (3 ∷ [] ++ replicate 15 0) used ≡ replicate 37 0 ++ 0xFF ∷ []
-  pub fifteen : setupAnswers 0x000A (replicate 15 1) used ≡ wrongLength
-  pub fifteenLeaves : setupLeaves 0x000A (replicate 15 1) used ≡ used
-  pub short : setupAnswers 0x000A (replicate 16 1) (replicate 37 0x55) ≡ wrongLength
-  pub shortLeaves : setupLeaves 0x000A (replicate 16 1) (replicate 37 0x55) ≡ replicate 37 0x55
+  pub answers : setupAnswers (chassis 0x000A (1 ∷ 2 ∷ [] ++ replicate 14 0)) used ≡ Refusal.accepted
+  pub leaves : setupLeaves (chassis 0x000A (1 ∷ 2 ∷ [] ++ replicate 14 0)) used ≡ 0x00 ∷ 0x0A ∷ 1 ∷ 2 ∷ [] ++ replicate 33 0 ++ 0xFF ∷ []
+  pub refused : setupAnswers (chassis 0x000A (3 ∷ [] ++ replicate 15 0)) used ≡ Refusal.badPage
+  pub emptied : setupLeaves (chassis 0x000A (3 ∷ [] ++ replicate 15 0)) used ≡ replicate 37 0 ++ 0xFF ∷ []
+  pub fifteen : setupAnswers (chassis 0x000A (replicate 15 1)) used ≡ wrongLength
+  pub fifteenLeaves : setupLeaves (chassis 0x000A (replicate 15 1)) used ≡ used
+  pub short : setupAnswers (chassis 0x000A (replicate 16 1)) (replicate (stateSize - 1) 0x55) ≡ wrongLength
+  pub shortLeaves : setupLeaves (chassis 0x000A (replicate 16 1)) (replicate (stateSize - 1) 0x55) ≡ replicate (stateSize - 1) 0x55
 
 -- ---- A reset, accepted in any phase, with something wrong about what is lent
 
@@ -102,13 +102,13 @@ resetting = eventOf Kind.reset 0 0 0
 
 -- no memory and no ports, with a place for the answer; the same with a place that is a byte short, and with a state that is
 abbrev pub noMemory : Lent
-noMemory = lent used [] [] (replicate 9 0x55)
+noMemory = lent used [] [] (replicate answerSize 0x55)
 
 abbrev pub shortAnswer : Lent
-shortAnswer = lent used [] [] (replicate 8 0x55)
+shortAnswer = lent used [] [] (replicate (answerSize - 1) 0x55)
 
 abbrev pub shortState : Lent
-shortState = lent (replicate 37 0x55) [] [] (replicate 9 0x55)
+shortState = lent (replicate (stateSize - 1) 0x55) [] [] (replicate answerSize 0x55)
 
 pub record StepCalls : Type 0 where
   pub noMemoryAnswers : stepAnswers noMemory resetting ≡ Refusal.wrongBuffers
@@ -138,5 +138,5 @@ pub record SettleCalls : Type 0 where
   pub nineAnswers : settleAnswers fourNineTen nine ≡ Refusal.unsettled
   pub nineCounts : settleCounts fourNineTen nine 77 ≡ 0
   pub nineLeaves : settleLeaves fourNineTen nine ≡ fourNineTen
-  pub shortAnswers : settleAnswers (replicate 37 0) twelve ≡ wrongLength
-  pub shortCounts : settleCounts (replicate 37 0) twelve 77 ≡ 77
+  pub shortAnswers : settleAnswers (replicate (stateSize - 1) 0) twelve ≡ wrongLength
+  pub shortCounts : settleCounts (replicate (stateSize - 1) 0) twelve 77 ≡ 77

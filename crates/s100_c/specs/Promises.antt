@@ -10,6 +10,7 @@ use Rattle.bus.specs.Sense.{makesSense}
 use Rattle.bus.specs.Setup.{setupOf}
 use Rattle.bus.specs.Settle.{settleOf}
 use Rattle.bus.specs.declared.state.Bus.{Bus}
+use Rattle.bus.specs.declared.state.Chassis.{Chassis}
 use Rattle.judgement.specs.Refusals.{hasWrongBuffers}
 use Rattle.judgement.specs.declared.event.Event.{Event}
 use Rattle.events.specs.Step.{after, answerTo}
@@ -29,7 +30,7 @@ use Rattle.s100_c.specs.Calls.{
   settleLeaves,
   settleCounts,
 }
-use Rattle.s100_c.specs.Run.{Placed, bytesAfter, taken}
+use Rattle.s100_c.specs.Run.{Placed, bytesAfter, callsTaken}
 
 -- ---- The layout
 
@@ -53,15 +54,15 @@ SensibleReadsBack = (bus : Bus) → makesSense bus ≡ true → (length (stateBy
 abbrev pub BytesReadBack : Type 0
 BytesReadBack = (bytes : List ℕ) → length bytes ≡ stateSize → AreBytes bytes → Whole (busIn bytes) × (stateBytes (busIn bytes) ≡ bytes)
 
-abbrev pub AnswerReadsBack : Type 0
-AnswerReadsBack = (a : Answer) → (length (answerBytes a) ≡ answerSize) × (answerIn (answerBytes a) ≡ a)
+abbrev pub AnswerBytesReadBack : Type 0
+AnswerBytesReadBack = (a : Answer) → (length (answerBytes a) ≡ answerSize) × (answerIn (answerBytes a) ≡ a)
 
 -- ---- Where a length is wrong the answer is fixed, and every buffer is as it was.
 
 abbrev pub SetupMisfits : Type 0
 SetupMisfits =
-    (fitted : ℕ) (pages state : List ℕ) → setupFits pages state ≡ false
-    → (setupAnswers fitted pages state ≡ wrongLength) × (setupLeaves fitted pages state ≡ state)
+    (given : Chassis) (state : List ℕ) → setupFits given state ≡ false
+    → (setupAnswers given state ≡ wrongLength) × (setupLeaves given state ≡ state)
 
 abbrev pub StepMisplaced : Type 0
 StepMisplaced =
@@ -80,7 +81,7 @@ SettleMisfits =
 -- No other answer has that number.
 abbrev pub WrongLengthIsOwn : Type 0
 WrongLengthIsOwn =
-    ((fitted : ℕ) (pages state : List ℕ) → setupAnswers fitted pages state ≡ wrongLength → setupFits pages state ≡ false)
+    ((given : Chassis) (state : List ℕ) → setupAnswers given state ≡ wrongLength → setupFits given state ≡ false)
     × (((given : Lent) (event : Event) → stepAnswers given event ≡ wrongLength → placesFit given ≡ false)
     × ((state cards : List ℕ) → settleAnswers state cards ≡ wrongLength → isState state ≡ false))
 
@@ -88,8 +89,8 @@ WrongLengthIsOwn =
 
 abbrev pub SetupIsTheSetup : Type 0
 SetupIsTheSetup =
-    (fitted : ℕ) (pages state : List ℕ) → setupFits pages state ≡ true
-    → (setupAnswers fitted pages state ≡ setupOf fitted pages .answer) × (busIn (setupLeaves fitted pages state) ≡ setupOf fitted pages .bus)
+    (given : Chassis) (state : List ℕ) → setupFits given state ≡ true
+    → (setupAnswers given state ≡ setupOf given .answer) × (busIn (setupLeaves given state) ≡ setupOf given .bus)
 
 -- also with memory and ports of wrong lengths, which the model refuses too
 abbrev pub StepIsTheStep : Type 0
@@ -113,7 +114,7 @@ SettleIsTheSettle =
 abbrev pub RunIsTheRun : Type 0
 RunIsTheRun =
     (calls : List Placed) (state : List ℕ) → isState state ≡ true
-    → (isState (bytesAfter state calls) ≡ true) × (busIn (bytesAfter state calls) ≡ afterAll (busIn state) (taken calls))
+    → (isState (bytesAfter state calls) ≡ true) × (busIn (bytesAfter state calls) ≡ afterAll (busIn state) (callsTaken calls))
 
 -- ---- A refused call leaves every byte of state, memory and ports as it was.
 

@@ -20,6 +20,6 @@ bytesAfter state [] = state
 bytesAfter state (c ∷ calls) = bytesAfter (stateAfter state c) calls
 
 -- the calls that come to the bus: one without a place for its answer doesn't
-unfoldable pub taken : List Placed → List Call
-taken [] = []
-taken (c ∷ calls) = cond (isAnswer (c .answer)) (c .call ∷ taken calls) (taken calls)
+unfoldable pub callsTaken : List Placed → List Call
+callsTaken [] = []
+callsTaken (c ∷ calls) = cond (isAnswer (c .answer)) (c .call ∷ callsTaken calls) (callsTaken calls)

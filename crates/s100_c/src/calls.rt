@@ -1,6 +1,7 @@
 // Setup, step and settle on a state in a lent buffer.
 ghost use mathlib.Core.Path.{_≡_};
 ghost use lib.ListN.{length};
+ghost use Rattle.bus.specs.State.{chassis};
 ghost use Rattle.judgement.specs.Table.{eventOf};
 ghost use Rattle.events.specs.Step.{answerTo};
 ghost use Rattle.s100_c.specs.Layout.{stateSize, answerSize};
@@ -16,12 +17,13 @@ ghost use Rattle.s100_c.specs.Calls.{
   settleLeaves,
   settleCounts,
 };
-use crate::layout::ANSWER_SIZE;
+use crate::answer_layout::ANSWER_SIZE;
+use crate::answer_layout::put_answer;
 use crate::layout::STATE_SIZE;
 use crate::layout::bus_in;
-use crate::layout::put_answer;
 use crate::layout::put_bus;
 use crate::layout::sixteen_at;
+use bus::Chassis;
 use bus::numbers::*;
 use judgement::Event;
 use sense::setup;
@@ -30,11 +32,14 @@ use stepping::step;
 
 #[no_mangle]
 pub extern "C" fn s100_setup(fitted: u16, pages: &[u8], state: &mut [u8]) -> u8
-    ensures answers { λ r. ⌜ r ≡ setupAnswers fitted (now (pages .entry)) (now (state .entry)) ⌝ }
-    ensures leaves { λ _. ⌜ now (state .exit) ≡ setupLeaves fitted (now (pages .entry)) (now (state .entry)) ⌝ }
+    ensures answers { λ r. ⌜ r ≡ setupAnswers (chassis fitted (now (pages .entry))) (now (state .entry)) ⌝ }
+    ensures leaves { λ _. ⌜ now (state .exit) ≡ setupLeaves (chassis fitted (now (pages .entry))) (now (state .entry)) ⌝ }
 {
     if (pages.len() == 16) & (state.len() == STATE_SIZE) {
-        let set = setup(fitted, sixteen_at(pages, 0));
+        let set = setup(Chassis {
+            fitted: fitted,
+            pages: sixteen_at(pages, 0),
+        });
         let left = set.bus;
         put_bus(left, state);
         set.answer
@@ -54,8 +59,11 @@ pub extern "C" fn s100_step(
     ports: &mut [u8],
     answer: &mut [u8],
 ) -> u8
-    ensures answers { λ r. ⌜ r ≡ stepAnswers (lent (now (state .entry)) (now (memory .entry)) (now (ports .entry)) (now (answer .entry))) (eventOf kind speaker address datum) ⌝ }
-    ensures leaves { λ _. ⌜ lent (now (state .exit)) (now (memory .exit)) (now (ports .exit)) (now (answer .exit)) ≡ stepLeaves (lent (now (state .entry)) (now (memory .entry)) (now (ports .entry)) (now (answer .entry))) (eventOf kind speaker address datum) ⌝ }
+    ensures answers { λ r. ⌜ r ≡ stepAnswers (lent (now (state .entry)) (now (memory .entry)) (now (ports .entry)) (now (answer .entry)))
+        (eventOf kind speaker address datum) ⌝ }
+    ensures leaves { λ _. ⌜ lent (now (state .exit)) (now (memory .exit)) (now (ports .exit)) (now (answer .exit))
+        ≡ stepLeaves (lent (now (state .entry)) (now (memory .entry)) (now (ports .entry)) (now (answer .entry)))
+        (eventOf kind speaker address datum) ⌝ }
 {
     let event = Event {
         kind: kind,
@@ -84,8 +92,10 @@ fn take_step(
 ) -> u8
     requires { ⌜ length (now state) ≡ stateSize ⌝ }
     requires { ⌜ length (now answer) ≡ answerSize ⌝ }
-    ensures answers { λ r. ⌜ r ≡ answerTo (machineIn (lent (now (state .entry)) (now (memory .entry)) (now (ports .entry)) (now (answer .entry)))) event .refusal ⌝ }
-    ensures leaves { λ _. ⌜ lent (now (state .exit)) (now (memory .exit)) (now (ports .exit)) (now (answer .exit)) ≡ written (lent (now (state .entry)) (now (memory .entry)) (now (ports .entry)) (now (answer .entry))) event ⌝ }
+    ensures answers { λ r. ⌜ r
+        ≡ answerTo (machineIn (lent (now (state .entry)) (now (memory .entry)) (now (ports .entry)) (now (answer .entry)))) event .refusal ⌝ }
+    ensures leaves { λ _. ⌜ lent (now (state .exit)) (now (memory .exit)) (now (ports .exit)) (now (answer .exit))
+        ≡ written (lent (now (state .entry)) (now (memory .entry)) (now (ports .entry)) (now (answer .entry))) event ⌝ }
 {
     let given = bus_in(state);
     let stepped = step(given, event, memory, ports);

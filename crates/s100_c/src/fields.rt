@@ -5,7 +5,7 @@ ghost use Prim.Native.Nat.{_+_, _<_, _≤_};
 ghost use lib.Dec.{ltb};
 ghost use lib.ListN.{getD};
 ghost use Rattle.bus.specs.State.{linesOf};
-ghost use Rattle.s100_c.specs.Layout.{wordAt, stateSize, isState};
+ghost use Rattle.s100_c.specs.Layout.{byteAt, wordAt, stateSize, isState};
 ghost use Rattle.s100_c.specs.Calls.{noField, fieldOf, entryOf, isSensible};
 use crate::layout::CONTENDERS_AT;
 use crate::layout::DRIVEN_AT;
@@ -95,7 +95,7 @@ fn wide(b: u8) -> u32
 
 fn byte_field(state: &[u8], at: usize) -> u32
     requires { ⌜ at < stateSize ⌝ }
-    ensures { λ r. ⌜ r ≡ cond (isState (now (state .entry))) (getD (now (state .entry)) at 0) noField ⌝ }
+    ensures { λ r. ⌜ r ≡ cond (isState (now (state .entry))) (byteAt at (now (state .entry))) noField ⌝ }
 {
     if state.len() == STATE_SIZE {
         wide(state[at])

@@ -1,4 +1,4 @@
-// Where each field of a state and of an answer stands in a lent buffer. A caller has asked for the lengths before.
+// Where each field of a state stands in a lent buffer. A caller has asked for the length before.
 ghost use mathlib.Core.Path.{_≡_};
 ghost use Prim.Native.Nat.{_+_, _*_, _≤_};
 ghost use lib.ListN.{length};
@@ -10,27 +10,22 @@ ghost use Rattle.s100_c.specs.Layout.{
   stateSize,
   stateBytes,
   busIn,
-  answerSize,
-  answerBytes,
 };
 use bus::Bus;
-use events::Answer;
-
-pub const STATE_SIZE: usize = 38;
 
 pub const FITTED_AT: usize = 0;
 
-pub const PAGES_AT: usize = 2;
+pub const PAGES_AT: usize = FITTED_AT + 2;
 
-pub const PHASE_AT: usize = 18;
+pub const PHASE_AT: usize = PAGES_AT + 16;
 
-pub const CONTENDERS_AT: usize = 19;
+pub const CONTENDERS_AT: usize = PHASE_AT + 1;
 
-pub const DRIVEN_AT: usize = 21;
+pub const DRIVEN_AT: usize = CONTENDERS_AT + 2;
 
-pub const GRANTED_AT: usize = 37;
+pub const GRANTED_AT: usize = DRIVEN_AT + 16;
 
-pub const ANSWER_SIZE: usize = 9;
+pub const STATE_SIZE: usize = GRANTED_AT + 1;
 
 fn joined(high: u8, low: u8) -> u16
     ensures { λ r. ⌜ r ≡ high * 0x100 + low ⌝ }
@@ -74,7 +69,7 @@ pub fn bus_in(state: &[u8]) -> Bus
     }
 }
 
-fn put_word(bytes: &mut [u8], at: usize, n: u16)
+pub fn put_word(bytes: &mut [u8], at: usize, n: u16)
     requires { ⌜ at + 2 ≤ length (now bytes) ⌝ }
     ensures { λ _. ⌜ now (bytes .exit) ≡ sets (now (bytes .entry)) at (twoBytes n) ⌝ }
 {
@@ -105,18 +100,4 @@ pub fn put_bus(bus: Bus, state: &mut [u8])
     put_word(state, CONTENDERS_AT, bus.contenders);
     put_sixteen(state, DRIVEN_AT, driven);
     state[GRANTED_AT] = bus.granted;
-}
-
-pub fn put_answer(answer: Answer, bytes: &mut [u8])
-    requires { ⌜ length (now bytes) ≡ answerSize ⌝ }
-    ensures { λ _. ⌜ now (bytes .exit) ≡ answerBytes answer ⌝ }
-{
-    bytes[0] = answer.refusal;
-    bytes[1] = answer.phase;
-    bytes[2] = answer.granted;
-    bytes[3] = answer.lines;
-    bytes[4] = answer.signals;
-    bytes[5] = answer.status;
-    bytes[6] = answer.cycles;
-    put_word(bytes, 7, answer.datum);
 }

@@ -1,9 +1,11 @@
 // Whether a state makes sense, and the setup that begins with one that does.
 ghost use mathlib.Core.Path.{_≡_};
-ghost use Rattle.bus.specs.Sense.{contentionFits, drivingFits, grantFits, makesSense};
+ghost use Rattle.bus.specs.Sense.{codesKnown, contentionFits, drivingFits, grantFits, standingFits, makesSense};
 ghost use Rattle.bus.specs.State.{freeBus};
 ghost use Rattle.bus.specs.Setup.{setupOf};
 use bus::Bus;
+use bus::Chassis;
+use bus::EMPTY_CHASSIS;
 use bus::SetupAnswer;
 use bus::numbers::*;
 use cards::all_at_most;
@@ -13,28 +15,30 @@ use cards::is_within;
 use cards::some_card;
 use phases::numbers::*;
 
-// The bus that comes with a refusal is an empty chassis.
-pub fn setup(fitted: u16, pages: [u8; 16]) -> SetupAnswer
-    ensures { λ r. ⌜ r ≡ setupOf fitted pages ⌝ }
+// The bus that comes with a refusal is that of an empty chassis.
+pub fn setup(chassis: Chassis) -> SetupAnswer
+    ensures { λ r. ⌜ r ≡ setupOf chassis ⌝ }
 {
-    if all_at_most(2, &pages) {
+    if codes_known(chassis) {
         SetupAnswer {
             answer: ACCEPTED,
-            bus: freed(fitted, pages),
+            bus: freed(chassis),
         }
     } else {
         SetupAnswer {
             answer: BAD_PAGE,
-            bus: freed(0, [0; 16]),
+            bus: freed(EMPTY_CHASSIS),
         }
     }
 }
 
-fn freed(fitted: u16, pages: [u8; 16]) -> Bus
-    ensures { λ r. ⌜ r ≡ freeBus fitted pages ⌝ }
+// A free bus with this chassis.
+pub fn freed(chassis: Chassis) -> Bus
+    ensures { λ r. ⌜ r ≡ freeBus chassis ⌝ }
 {
+    let pages = chassis.pages;
     Bus {
-        fitted: fitted,
+        fitted: chassis.fitted,
         pages: pages,
         phase: FREE,
         contenders: 0,
@@ -43,13 +47,24 @@ fn freed(fitted: u16, pages: [u8; 16]) -> Bus
     }
 }
 
+fn codes_known(chassis: Chassis) -> bool
+    ensures { λ r. ⌜ r ≡ codesKnown chassis ⌝ }
+{
+    let pages = chassis.pages;
+    all_at_most(2, &pages)
+}
+
 pub fn makes_sense(bus: Bus) -> bool
     ensures { λ r. ⌜ r ≡ makesSense bus ⌝ }
 {
-    let pages = bus.pages;
+    codes_known(bus.chassis()) & standing_fits(bus)
+}
+
+fn standing_fits(bus: Bus) -> bool
+    ensures { λ r. ⌜ r ≡ standingFits bus ⌝ }
+{
     let driven = bus.driven;
-    all_at_most(2, &pages)
-        & (bus.phase <= TRANSFER_TWO)
+    (bus.phase <= LAST_PHASE)
         & contention_fits(bus)
         & driving_fits(bus.contenders, driven)
         & grant_fits(bus)

@@ -5,7 +5,7 @@ use Rattle.words.specs.Among.{everyListed, beside}
 use Rattle.lines.specs.Arbitration.{shown}
 use Rattle.phases.specs.Signal.{signalsIn}
 use Rattle.cards.specs.Cards.{someCard, isWithin}
-use Rattle.bus.specs.Sense.{drivingFits, makesSense}
+use Rattle.bus.specs.Sense.{drivingFits, standingFits, makesSense}
 use Rattle.text.specs.Digits.{numberAfter, digitsOf}
 use Rattle.text.specs.Newlines.{linesAfter, lastLine}
 use Rattle.text.specs.Reading.{answersTo}
@@ -24,5 +24,5 @@ pub fresh-session : FreshSession
 fresh-session = record { waits = refl; noCards = refl; noPages = refl }
 
 pub call-refusals : CallRefusals
-unfolding allBelow everyListed someCard isWithin drivingFits makesSense
+unfolding allBelow everyListed someCard isWithin drivingFits standingFits makesSense
 call-refusals = record { full = λ m p fit. rw fit; tooFull = refl; noMemory = refl; noSense = λ m p fit. rw fit }

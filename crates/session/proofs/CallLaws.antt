@@ -1,4 +1,4 @@
--- What the smaller calls rest on: an empty chassis, what is held, and when a call is refused.
+-- What is held, and how it is brought to the front.
 use mathlib.Core.Path.{_≡_, refl, sym, ap, ap₂, subst, _∙_}
 use mathlib.Core.Bool.{Bool, true, false, cond, _&&_}
 use mathlib.Core.List.{List, _++_}
@@ -9,23 +9,11 @@ use lib.Dec.{eqb, ltb}
 use lib.ListN.{length, getD, take, drop, set, replicate, length-take, length-drop}
 use lib.Seq.{take-all, take-length, take-take, take-add, drop-at, length-take-le, paste, paste-suc, getD-drop, getD-append-add}
 use borrow.Author.Tests.{eqb-true, eq-eqb, ltb-true, ltb-false}
-use Rattle.bus.specs.Sense.{pagesKnown}
-use Rattle.bus.specs.State.{freeBus}
-use Rattle.bus.specs.Setup.{emptyBus, setupOf}
-use Rattle.bus.specs.declared.state.SetupAnswer.{SetupAnswer}
 use Rattle.text.specs.Newlines.{hasNewline, firstLine}
-use Rattle.text.specs.Reading.{heldOf}
+use Rattle.text.specs.Reading.{mostHeld, heldOf}
 use Rattle.text.proofs.NewlineLaws.{unended, line-within}
 use Rattle.words.proofs.TestLaws.{true-or-false, both-of}
 use mathlib.Core.Logic.{⊎-elim}
-
--- setup of nothing is an empty chassis, whatever it answers
-pub nothing-set-up : setupOf 0 (replicate 16 0) .bus ≡ emptyBus
-nothing-set-up = go (pagesKnown (replicate 16 0))
-  where
-    go : (known : Bool) → (cond {A = SetupAnswer} known (record { answer = 0; bus = freeBus 0 (replicate 16 0) }) (record { answer = 11; bus = emptyBus })) .bus ≡ emptyBus
-    go true = refl
-    go false = refl
 
 -- ---- What is held
 
@@ -34,22 +22,27 @@ pub whole-unended : (rest : List ℕ) → length (firstLine rest) ≡ length res
 whole-unended rest e = ⊎-elim (λ has. absurd (omega (arith, e, line-within rest has))) (λ none. none) (true-or-false (hasNewline rest))
 
 -- how many bytes are held, as the code finds it
-pub held-count-cut : (rest : List ℕ) (end : ℕ) → end ≡ length (firstLine rest) → (eqb end (length rest) && ltb 21 (length rest)) ≡ true → 21 ≡ length (heldOf rest)
+pub held-count-cut : (rest : List ℕ) (end : ℕ) → end ≡ length (firstLine rest) → (eqb end (length rest) && ltb mostHeld (length rest)) ≡ true
+    → mostHeld ≡ length (heldOf rest)
 held-count-cut rest end e cut =
-    let both = both-of (eqb end (length rest)) (ltb 21 (length rest)) cut in
+    let both = both-of (eqb end (length rest)) (ltb mostHeld (length rest)) cut in
     rw (whole-unended rest (sym e ∙ eqb-true end (length rest) (both .0)))
-    (sym (length-take-le 21 rest (omega (arith, ltb-true 21 (length rest) (both .1)))))
+    (sym (length-take-le mostHeld rest (omega (arith, ltb-true mostHeld (length rest) (both .1)))))
 
-pub held-count-whole : (rest : List ℕ) (end : ℕ) → end ≡ length (firstLine rest) → (eqb end (length rest) && ltb 21 (length rest)) ≡ false → length rest ≡ length (heldOf rest)
+pub held-count-whole : (rest : List ℕ) (end : ℕ) → end ≡ length (firstLine rest) → (eqb end (length rest) && ltb mostHeld (length rest)) ≡ false
+    → length rest ≡ length (heldOf rest)
 held-count-whole rest end e whole =
     ⊎-elim
     (λ has. rw has refl)
-    (λ (none : hasNewline rest ≡ false). let short : ltb 21 (length rest) ≡ false = subst (λ (t : Bool). (t && ltb 21 (length rest)) ≡ false) (eq-eqb end (length rest) (e ∙ ap length (unended rest none))) whole in
-    rw none (ap length (sym (take-all 21 rest (ltb-false 21 (length rest) short)))))
+    (λ (none : hasNewline rest ≡ false).
+    let same = eq-eqb end (length rest) (e ∙ ap length (unended rest none)) in
+    let short : ltb mostHeld (length rest) ≡ false = subst (λ (t : Bool). (t && ltb mostHeld (length rest)) ≡ false) same whole in
+    rw none (ap length (sym (take-all mostHeld rest (ltb-false mostHeld (length rest) short)))))
     (true-or-false (hasNewline rest))
 
 -- the byte that is brought down next is still where it was
-pub brought : (text : List ℕ) (from i : ℕ) → from + i < length text → getD (paste text 0 (drop from text) i) (from + i) 0 ≡ getD (drop from text) i 0
+pub brought : (text : List ℕ) (from i : ℕ) → from + i < length text
+    → getD (paste text 0 (drop from text) i) (from + i) 0 ≡ getD (drop from text) i 0
 brought text from i h =
     let front = take i (drop from text) in
     let size : length front ≡ i = length-take-le i (drop from text) (omega (arith, length-drop from text, h)) in
@@ -77,15 +70,16 @@ brought-next text from i h =
 
 pub held-within : (rest : List ℕ) → length (heldOf rest) ≤ length rest
 held-within rest =
-    ⊎-elim (λ has. rw has (omega arith)) (λ none. rw none (omega (arith, length-take 21 rest))) (true-or-false (hasNewline rest))
+    ⊎-elim (λ has. rw has (omega arith)) (λ none. rw none (omega (arith, length-take mostHeld rest))) (true-or-false (hasNewline rest))
 
 pub held-front : (rest : List ℕ) → take (length (heldOf rest)) rest ≡ heldOf rest
 held-front rest =
-    ⊎-elim (λ has. rw has (take-length rest)) (λ none. rw none (go (decLe 21 (length rest)))) (true-or-false (hasNewline rest))
+    ⊎-elim (λ has. rw has (take-length rest)) (λ none. rw none (go (decLe mostHeld (length rest)))) (true-or-false (hasNewline rest))
   where
-    go : Dec (21 ≤ length rest) → take (length (take 21 rest)) rest ≡ take 21 rest
-    go (yes h) = ap (λ (k : ℕ). take k rest) (length-take-le 21 rest h)
-    go (no h) = ap (λ (l : List ℕ). take (length l) rest) (take-all 21 rest (omega arith)) ∙ take-length rest ∙ sym (take-all 21 rest (omega arith))
+    go : Dec (mostHeld ≤ length rest) → take (length (take mostHeld rest)) rest ≡ take mostHeld rest
+    go (yes h) = ap (λ (k : ℕ). take k rest) (length-take-le mostHeld rest h)
+    go (no h) =
+        let all = take-all mostHeld rest (omega arith) in ap (λ (l : List ℕ). take (length l) rest) all ∙ take-length rest ∙ sym all
 
 -- the bytes from one place to another
 pub between : (text : List ℕ) (from filled : ℕ) → from ≤ filled → filled ≤ length text → drop from (take filled text) ≡ take (filled - from) (drop from text)
@@ -95,18 +89,21 @@ between text from filled h k =
     ∙ ap (drop from) (take-add from (filled - from) text)
     ∙ drop-at (take from text) (take (filled - from) (drop from text)) from (length-take-le from text (omega (arith, h, k)))
 
-pub held-home : (text : List ℕ) (from filled count : ℕ) → from ≤ filled → filled ≤ length text → count ≡ length (heldOf (take (filled - from) (drop from text)))
-    → (text' : List ℕ) → text' ≡ paste text 0 (drop from text) count
+pub held-home : (text : List ℕ) (from filled count : ℕ) → from ≤ filled → filled ≤ length text
+    → count ≡ length (heldOf (take (filled - from) (drop from text))) → (text' : List ℕ) → text' ≡ paste text 0 (drop from text) count
     → (count ≡ length (heldOf (drop from (take filled text))))
     × (text' ≡ heldOf (drop from (take filled text)) ++ drop (length (heldOf (drop from (take filled text)))) text)
 held-home text from filled count h k e text' left =
     let rest = take (filled - from) (drop from text) in
     let front : take (length (heldOf rest)) (drop from text) ≡ heldOf rest =
-    sym (take-take (length (heldOf rest)) (filled - from) (drop from text) (omega (arith, held-within rest, length-take (filled - from) (drop from text))))
+    sym (take-take (length (heldOf rest)) (filled - from) (drop from text)
+    (omega (arith, held-within rest, length-take (filled - from) (drop from text))))
     ∙ held-front rest in
     rw (between text from filled h k) (
       e,
-      left ∙ ap (λ (n : ℕ). paste text 0 (drop from text) n) e ∙ ap₂ (λ (l : List ℕ) (n : ℕ). l ++ drop n text) front (none (length (heldOf rest))),
+      left
+          ∙ ap (λ (n : ℕ). paste text 0 (drop from text) n) e
+          ∙ ap₂ (λ (l : List ℕ) (n : ℕ). l ++ drop n text) front (none (length (heldOf rest))),
     )
   where
     none : (n : ℕ) → 0 + n ≡ n

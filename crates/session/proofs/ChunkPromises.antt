@@ -2,93 +2,53 @@
 use mathlib.Core.Path.{_≡_, refl, sym, ap, subst, _∙_}
 use mathlib.Core.Logic.{_⊎_, inl, inr, ⊎-elim}
 use mathlib.Core.Bool.{Bool, true, false, not, _&&_}
-use mathlib.Core.List.{List, [], _∷_, _++_, append-nil, append-assoc}
-use Prim.Native.Nat.{ℕ, zero, suc, _+_, _*_, _-_, _/_, _<_, _≤_}
+use mathlib.Core.List.{List, [], _∷_, _++_}
+use Prim.Native.Nat.{ℕ, zero, suc, _+_, _-_, _<_, _≤_}
 use native.Mathlib.Omega.{arith}
+use lib.Dec.{eqb, ltb}
 use lib.ListN.{length, getD, take, drop, set, length-append, length-drop}
 use lib.Seq.{sets, sets-eq, take-append-seam, take-suc-set, getD-take, length-take-le}
-use lib.Dec.{eqb, ltb}
-use borrow.Author.Tests.{eq-eqb, ne-eqb, lt-ltb, le-ltb}
+use borrow.Author.Tests.{eq-eqb, ne-eqb, leb-true, le-leb, lt-ltb, le-ltb}
 use Rattle.words.proofs.TestLaws.{true-or-false}
 use Rattle.bus.specs.Refusal as Refusal
-use Rattle.bus.specs.Sense.{makesSense}
-use Rattle.judgement.specs.Refusals.{hasWrongBuffers}
 use Rattle.text.specs.Newlines.{newline, hasNewline, firstLine, restOf, textLines}
 use Rattle.text.specs.Frames.{setupIn}
-use Rattle.text.specs.AnswerLine.{answerLength}
-use Rattle.text.specs.Reading.{Taken, takenOff, heldOf}
+use Rattle.text.specs.Reading.{Taken, mostHeld, heldOf}
+use Rattle.text.specs.Chunks.{begunIn}
 use Rattle.text.proofs.NewlineLaws.{none-at}
-use Rattle.text.proofs.LinePromises.{taken-is-the-whole, held-is-enough, held-is-short, line-unended, ended-line, no-newline, last-of, last-none}
-use Rattle.text.proofs.ReadingLaws.{taken-line, taken-none, none-taken, answer-long, taken-rest, taken-used}
-use Rattle.session.specs.World.{World, world, says, turns, saysBy, eventAnswer, machineOf, setupAnswer, setUpBy}
-use Rattle.session.specs.Feeding.{takes, linesFor, feedRefusal, takesLast, wantsNewline, endedText, endedAt}
-use Rattle.session.specs.Output.{answers}
-use Rattle.session.specs.Chunks.{Run, fedWith, fedAll, wholeText, begun}
-use Rattle.session.specs.Promises.{AnyChunks, CallsGoOn, FedInPlace, FeedRefused, FinishRefused, NothingToEnd, RoomToRead, FinishedInPlace, WholeRun}
-use Rattle.session.specs.declared.state.Stage.{Stage}
-use Rattle.session.specs.declared.state.Stage.the-variants.{Awaiting, Running, Ended}
+use Rattle.text.proofs.LinePromises.{taken-fits, held-is-short, front-has-none, line-unended, ended-line, no-newline, last-of, last-none}
+use Rattle.text.proofs.ChunkLaws.{chunks-say-the-same, fed-kept}
+use Rattle.text.proofs.ReadingLaws.{taken-next, taken-none, unended-stops, rest-length, taken-rest, answer-long}
+use Rattle.session.specs.World.{World, says, turns, mostSaid, answering, saysBy, eventAnswer, machineOf, setupAnswer, setUpBy, freshWorld}
+use Rattle.session.specs.Feeding.{takes, hasRoom, feedRefusal, takesLast, wantsNewline, endedText, endedAt}
+use Rattle.session.specs.Output.{answers, ranIn}
+use Rattle.session.specs.Promises.{
+  AnyChunks,
+  CallsGoOn,
+  FedInPlace,
+  FeedRefused,
+  FinishRefused,
+  NothingToEnd,
+  RoomToRead,
+  RoomAsked,
+  NothingCompleteHeld,
+  FinishedInPlace,
+  WholeRun,
+}
+use Rattle.session.specs.declared.state.Stage.the-variants.{Awaiting, Running}
 use Rattle.session.proofs.CallLaws.{held-within}
-use Rattle.session.proofs.FeedLaws.{sound}
-use Rattle.session.proofs.RunPromises.{cut-changes-nothing, one-said, none-said, stays-sound, fresh-is-sound}
+use Rattle.session.proofs.SoundLaws.{Sound, sound-turns, sound-fresh}
+use Rattle.session.proofs.LoopLaws.{says-at-most}
+use Rattle.session.proofs.FeedLaws.{call-accepted}
+use Rattle.session.proofs.RunPromises.{cut-changes-nothing, one-said, none-said}
 
 -- ---- Chunks
 
--- one call: what it says, with what comes of what it holds, is what would have come
-one-call : (r : Run) (size : ℕ) (chunk more : List ℕ)
-    → r .said ++ answers (r .world) (textLines (r .held ++ (chunk ++ more)))
-    ≡ fedWith r size chunk .said ++ answers (fedWith r size chunk .world) (textLines (fedWith r size chunk .held ++ more))
-one-call r size chunk more =
-    let n = linesFor (r .world .session .stage) (size / answerLength) in
-    let t = takes size (r .world) (r .held ++ chunk) in
-    ap (λ (l : List ℕ). r .said ++ answers (r .world) (textLines l)) (sym (append-assoc (r .held) chunk more))
-    ∙ ap (λ (l : List ℕ). r .said ++ l) (taken-is-the-whole World says turns n (r .world) (r .held ++ chunk) more)
-    ∙ sym (append-assoc (r .said) (t .said) (answers (t .state) (textLines (t .rest ++ more))))
-    ∙ ap (λ (l : List ℕ). r .said ++ t .said ++ l) (sym (held-is-enough World says turns cut-changes-nothing (t .state) (t .rest) more))
-
-all-calls : (calls : List (ℕ × List ℕ)) (r : Run)
-    → r .said ++ answers (r .world) (textLines (r .held ++ wholeText calls)) ≡ fedAll r calls .said ++ answers (fedAll r calls .world) (textLines (fedAll r calls .held))
-unfolding fedAll wholeText
-all-calls [] r = ap (λ (l : List ℕ). r .said ++ answers (r .world) (textLines l)) (append-nil (r .held))
-all-calls (call ∷ calls) r = one-call r (call .0) (call .1) (wholeText calls) ∙ all-calls calls (fedWith r (call .0) (call .1))
-
 pub any-chunks : AnyChunks
-any-chunks calls = sym (all-calls calls begun)
+any-chunks calls = chunks-say-the-same World answering cut-changes-nothing freshWorld calls
 
--- ---- How much is said
-
--- a line is answered with a whole line, or once the run has ended with nothing
-says-short : (w : World) (line : List ℕ) → length (says w line) ≤ 19
-unfolding saysBy
-says-short w line = go (w .session .stage) refl
-  where
-    go : (stage : Stage) → w .session .stage ≡ stage → length (says w line) ≤ 19
-    go Awaiting e = rw e (omega (arith, answer-long (setupAnswer (setUpBy (setupIn line)))))
-    go Running e = rw e (omega (arith, answer-long (eventAnswer (machineOf w) line)))
-    go Ended e = rw e (omega arith)
-
-said-short : (n : ℕ) (w : World) (text : List ℕ) → length (takenOff says turns n w text .said) ≤ n * 19
-said-short zero w text = rw (none-taken says turns w text) (omega arith)
-said-short (suc n) w text =
-    ⊎-elim
-    (λ (has : hasNewline text ≡ true).
-    rw (taken-line says turns n w text has) (omega (
-      arith,
-      length-append (says w (firstLine text)) (takenOff says turns n (turns w (firstLine text)) (restOf text) .said),
-      says-short w (firstLine text),
-      said-short n (turns w (firstLine text)) (restOf text),
-    )))
-    (λ (none : hasNewline text ≡ false). rw (taken-none says turns (suc n) w text none) (omega arith))
-    (true-or-false (hasNewline text))
-
-room-for : (stage : Stage) (room : ℕ) → linesFor stage room ≤ room
-unfolding linesFor
-room-for Awaiting room = omega arith
-room-for Running room = omega arith
-room-for Ended room = omega arith
-
-pub said-fits : (size : ℕ) (w : World) (text : List ℕ) → length (takes size w text .said) ≤ size
-said-fits size w text =
-    omega (arith, said-short (linesFor (w .session .stage) (size / 19)) w text, room-for (w .session .stage) (size / 19))
+said-fits : (size : ℕ) (w : World) (text : List ℕ) → length (takes size w text .said) ≤ size
+said-fits size w text = taken-fits World answering says-at-most size w text .0
 
 -- ---- In place
 
@@ -98,67 +58,46 @@ put-front out bytes h =
     ap (take (length bytes)) (sets-eq bytes out 0 (omega (arith, h))) ∙ take-append-seam bytes (drop (0 + length bytes) out)
 
 pub fed-in-place : FedInPlace
-fed-in-place w text filled out accepted =
+fed-in-place w text filled out given =
     let t = takes (length out) w (take filled text) in
-    rw (eq-eqb (feedRefusal (w .session .bus) (w .memory) (w .ports) text filled) Refusal.accepted accepted) (
+    rw (eq-eqb (feedRefusal (w .session .bus) (w .memory) (w .ports) text filled) Refusal.accepted given) (
       put-front out (t .said) (said-fits (length out) w (take filled text)),
       (take-append-seam (heldOf (t .rest)) (drop (length (heldOf (t .rest))) text), refl),
     )
 
 -- ---- A call goes on
 
--- where a line has ended and there is room, at least one is taken
-line-said : (n : ℕ) (w : World) (text : List ℕ) → hasNewline text ≡ true → 0 < n → length (says w (firstLine text)) ≤ length (takenOff says turns n w text .said)
-line-said zero w text has some = absurd (omega (arith, some))
-line-said (suc n) w text has some =
-    rw (taken-line says turns n w text has) (
-    omega (arith, length-append (says w (firstLine text)) (takenOff says turns n (turns w (firstLine text)) (restOf text) .said)))
+-- a session that goes on says something to each line
+says-some : (w : World) (line : List ℕ) → (w .session .stage ≡ Awaiting) ⊎ (w .session .stage ≡ Running) → 0 < length (says w line)
+unfolding saysBy
+says-some w line =
+    ⊎-elim (λ e. rw e (omega (arith, answer-long (setupAnswer (setUpBy (setupIn line))))))
+    (λ e. rw e (omega (arith, answer-long (eventAnswer (machineOf w) line))))
 
 pub calls-go-on : CallsGoOn
-unfolding saysBy linesFor
-calls-go-on w size text has room =
-    ⊎-elim
-    (λ (awaiting : w .session .stage ≡ Awaiting).
-    go Awaiting awaiting (omega (arith, room)) (answer-long (setupAnswer (setUpBy (setupIn (firstLine text))))))
-    (λ (running : w .session .stage ≡ Running). go Running running (omega (arith, room)) (answer-long (eventAnswer (machineOf w) (firstLine text))))
-  where
-    go : (stage : Stage) → w .session .stage ≡ stage → 0 < linesFor stage (size / 19) → length (saysBy stage w (firstLine text)) ≡ 19
-        → 0 < length (takes size w text .said)
-    go stage e some long =
-        let said : length (says w (firstLine text)) ≡ 19 = ap (λ (s : Stage). length (saysBy s w (firstLine text))) e ∙ long in
-        let lines : linesFor (w .session .stage) (size / 19) ≡ linesFor stage (size / 19) = ap (λ (s : Stage). linesFor s (size / 19)) e in
-        omega (arith, said, line-said (linesFor (w .session .stage) (size / 19)) w text has (omega (arith, some, lines)))
+calls-go-on w size text has room goes =
+    let line = says w (firstLine text) in
+    let later = takes (size - length line) (turns w (firstLine text)) (restOf text) in
+    rw (taken-next answering size w text has room) (omega (arith, says-some w (firstLine text) goes, length-append line (later .said)))
 
--- ---- Room to read
-
-some-line : (w : World) → w .session .stage ≡ Awaiting → (size : ℕ) → 19 ≤ size → 0 < linesFor (w .session .stage) (size / 19)
-unfolding linesFor
-some-line w e size room = rw e (omega (arith, room))
-
-running-line : (w : World) → w .session .stage ≡ Running → (size : ℕ) → 19 ≤ size → 0 < linesFor (w .session .stage) (size / 19)
-unfolding linesFor
-running-line w e size room = rw e (omega (arith, room))
-
--- a line that has ended takes some bytes off the text
-line-off : (n : ℕ) (w : World) (text : List ℕ) → hasNewline text ≡ true → 0 < n → 0 < takenOff says turns n w text .used
-line-off zero w text has some = absurd (omega (arith, some))
-line-off (suc n) w text has some = rw (taken-line says turns n w text has) (omega arith)
-
-held-less : (n : ℕ) (w : World) (text : List ℕ) (size : ℕ) → 0 < n → length text ≤ size → 21 < size → length (heldOf (takenOff says turns n w text .rest)) < size
-held-less n w text size some short long =
+held-less : (room : ℕ) (w : World) (text : List ℕ) (size : ℕ) → mostSaid ≤ room → length text ≤ size → mostHeld < size
+    → length (heldOf (takes room w text .rest)) < size
+held-less room w text size some short long =
     ⊎-elim
     (λ (has : hasNewline text ≡ true).
-    omega (
+    let next = turns w (firstLine text) in
+    let left = room - length (says w (firstLine text)) in
+    let t = takes left next (restOf text) in
+    rw (taken-next answering room w text has some) (omega (
       arith,
-      held-within (takenOff says turns n w text .rest),
-      ap length (taken-rest says turns n w text),
-      length-drop (takenOff says turns n w text .used) text,
-      line-off n w text has some,
-      taken-used says turns n w text,
+      held-within (t .rest),
+      ap length (taken-rest answering left next (restOf text)),
+      length-drop (t .used) (restOf text),
+      rest-length text has,
       short,
-    ))
+    )))
     (λ (none : hasNewline text ≡ false).
-    rw (taken-none says turns n w text none) (omega (arith, held-is-short text none, long)))
+    rw (taken-none answering room w text (unended-stops answering room text none)) (omega (arith, held-is-short text none, long)))
     (true-or-false (hasNewline text))
 
 pub feed-refused : FeedRefused
@@ -184,47 +123,43 @@ nothing-to-end w text held out none = rw (wanted none) (refl, (refl, (refl, refl
         last false = refl
 
 pub room-to-read : RoomToRead
-room-to-read w text filled out accepted goes long room =
-    let s = sound (w .session .bus) (w .memory) (w .ports) text filled accepted in
-    let some : 0 < linesFor (w .session .stage) (length out / 19) =
-    ⊎-elim (λ e. some-line w e (length out) room) (λ e. running-line w e (length out) room) goes in
-    rw (eq-eqb (feedRefusal (w .session .bus) (w .memory) (w .ports) text filled) Refusal.accepted accepted) (
-    held-less (linesFor (w .session .stage) (length out / 19)) w (take filled text) (length text) some
+room-to-read w text filled out given long room =
+    let s = call-accepted (w .session .bus) (w .memory) (w .ports) text filled given in
+    rw (eq-eqb (feedRefusal (w .session .bus) (w .memory) (w .ports) text filled) Refusal.accepted given) (
+    held-less (length out) w (take filled text) (length text) room
     (omega (arith, length-take-le filled text (s .filled-within), s .filled-within)) long)
+
+-- what is held of a rest without a newline has none
+held-none : (rest : List ℕ) → hasNewline rest ≡ false → hasNewline (heldOf rest) ≡ false
+held-none rest none = rw none (front-has-none mostHeld rest none)
+
+pub room-asked : RoomAsked
+room-asked size written = (
+  λ room. let left = leb-true mostSaid (size - written) room in omega (arith, left),
+  λ left. le-leb mostSaid (size - written) (omega (arith, left)),
+)
+
+pub nothing-complete-held : NothingCompleteHeld
+nothing-complete-held w text filled out given room =
+    let t = takes (length out) w (take filled text) in
+    let in-place = fed-in-place w text filled out given in
+    let yes = eq-eqb (feedRefusal (w .session .bus) (w .memory) (w .ports) text filled) Refusal.accepted given in
+    let left : hasRoom (length out) (length (t .said)) ≡ true = rw yes at room in
+    rw (in-place .1 .0) (
+    held-none (t .rest)
+    (taken-fits World answering says-at-most (length out) w (take filled text) .1 (leb-true mostSaid (length out - length (t .said)) left)))
 
 -- ---- The last line
 
 -- one line with its newline, taken off where there is room, says what the line alone is answered
-last-said : (n : ℕ) (w : World) (line : List ℕ) → hasNewline line ≡ false → 0 < n → takenOff says turns n w (line ++ newline ∷ []) .said ≡ says w line
-last-said zero w line none some = absurd (omega (arith, some))
-last-said (suc n) w line none some =
-    let ended = ended-line line none in
-    rw (taken-line says turns n w (line ++ newline ∷ []) (ended .0), ended .1 .0, ended .1 .1) (
-    rw (taken-none says turns n (turns w line) [] no-newline) (append-nil (says w line)))
-
-ended-lines : (w : World) → w .session .stage ≡ Ended → (size : ℕ) → linesFor (w .session .stage) (size / 19) ≡ 0
-unfolding linesFor
-ended-lines w e size = rw e refl
-
-ended-says : (w : World) → w .session .stage ≡ Ended → (line : List ℕ) → says w line ≡ []
-unfolding saysBy
-ended-says w e line = rw e refl
-
--- by stage: a run that has ended says nothing to the last line either
-last-takes : (size : ℕ) (w : World) (line : List ℕ) → hasNewline line ≡ false → 19 ≤ size
+last-takes : (size : ℕ) (w : World) (line : List ℕ) → hasNewline line ≡ false → mostSaid ≤ size
     → takes size w (line ++ newline ∷ []) .said ≡ answers w (line ∷ [])
-last-takes size w line none room = go (w .session .stage) refl
-  where
-    alone : answers w (line ∷ []) ≡ says w line
-    alone = one-said w line [] ∙ ap (λ (l : List ℕ). says w line ++ l) (none-said (turns w line)) ∙ append-nil (says w line)
-
-    go : (stage : Stage) → w .session .stage ≡ stage → takes size w (line ++ newline ∷ []) .said ≡ answers w (line ∷ [])
-    go Awaiting e = last-said (linesFor (w .session .stage) (size / 19)) w line none (some-line w e size room) ∙ sym alone
-    go Running e = last-said (linesFor (w .session .stage) (size / 19)) w line none (running-line w e size room) ∙ sym alone
-    go Ended e =
-        ap (λ (n : ℕ). takenOff says turns n w (line ++ newline ∷ []) .said) (ended-lines w e size)
-        ∙ ap (λ (t : Taken World). t .said) (none-taken says turns w (line ++ newline ∷ []))
-        ∙ sym (alone ∙ ended-says w e line)
+last-takes size w line none room =
+    let ended = ended-line line none in
+    let left = size - length (says w line) in
+    rw (taken-next answering size w (line ++ newline ∷ []) (ended .0) room, ended .1 .0, ended .1 .1) (
+    rw (taken-none answering left (turns w line) [] (unended-stops answering left [] no-newline)) (
+    sym (one-said w line [] ∙ ap (λ (l : List ℕ). says w line ++ l) (none-said (turns w line)))))
 
 -- the text that the end of the input has ended
 ended-take : (text : List ℕ) (held : ℕ) → 0 < held → held < length text → hasNewline (take held text) ≡ false
@@ -237,10 +172,10 @@ ended-take text held some within none =
     rw (lt-ltb 0 held some, lt-ltb held (length text) within, ne-eqb (getD text (held - 1) 0) newline last) (
     ap (λ (k : ℕ). take k (set text held newline)) one ∙ take-suc-set text held newline within)
 
-finished-said : (w : World) (text : List ℕ) (held size : ℕ) → held < length text → hasNewline (take held text) ≡ false → 19 ≤ size
+finished-said : (w : World) (text : List ℕ) (held size : ℕ) → held < length text → hasNewline (take held text) ≡ false → mostSaid ≤ size
     → takesLast size w text held .said ≡ answers w (textLines (take held text))
 finished-said w text zero size within none room =
-    ap (λ (t : Taken World). t .said) (taken-none says turns (linesFor (w .session .stage) (size / 19)) w [] no-newline)
+    ap (λ (t : Taken World). t .said) (taken-none answering size w [] (unended-stops answering size [] no-newline))
     ∙ sym (ap (answers w) (line-unended [] no-newline ∙ last-none) ∙ none-said w)
 finished-said w [] (suc k) size within none room = absurd (omega (arith, within))
 finished-said w (b ∷ text) (suc k) size within none room =
@@ -249,42 +184,24 @@ finished-said w (b ∷ text) (suc k) size within none room =
     ∙ ap (answers w) (sym (line-unended (take (suc k) (b ∷ text)) none ∙ last-of b (take k text)))
 
 pub finished-in-place : FinishedInPlace
-finished-in-place w text held out accepted within none room =
-    rw (eq-eqb (feedRefusal (w .session .bus) (w .memory) (w .ports) text held) Refusal.accepted accepted) (
+finished-in-place w text held out given within none room =
+    rw (eq-eqb (feedRefusal (w .session .bus) (w .memory) (w .ports) text held) Refusal.accepted given) (
     put-front out (takesLast (length out) w text held .said) (said-fits (length out) w (take (endedAt text held) (endedText text held)))
     ∙ finished-said w text held (length out) within none room)
 
 -- ---- A whole run
 
--- a sensible state, and buffers of the right lengths
-abbrev Sound : World → Type 0
-Sound w = (makesSense (w .session .bus) ≡ true) × (hasWrongBuffers (w .memory) (w .ports) ≡ false)
-
-taken-sound : (n : ℕ) (w : World) (text : List ℕ) → Sound w → Sound (takenOff says turns n w text .state)
-taken-sound zero w text s = rw (none-taken says turns w text) s
-taken-sound (suc n) w text s =
-    ⊎-elim
-    (λ (has : hasNewline text ≡ true).
-    rw (taken-line says turns n w text has) (
-    taken-sound n (turns w (firstLine text)) (restOf text) (stays-sound w (firstLine text) (s .0) (s .1))))
-    (λ (none : hasNewline text ≡ false). rw (taken-none says turns (suc n) w text none) s)
-    (true-or-false (hasNewline text))
-
-fed-sound : (calls : List (ℕ × List ℕ)) (r : Run) → Sound (r .world) → Sound (fedAll r calls .world)
-unfolding fedAll
-fed-sound [] r s = s
-fed-sound (call ∷ calls) r s =
-    fed-sound calls (fedWith r (call .0) (call .1))
-    (taken-sound (linesFor (r .world .session .stage) (call .0 / answerLength)) (r .world) (r .held ++ call .1) s)
-
-sound-accepted : (w : World) (text : List ℕ) (held : ℕ) → Sound w → held < length text → feedRefusal (w .session .bus) (w .memory) (w .ports) text held ≡ Refusal.accepted
-sound-accepted w text held s within = rw (s .1, le-ltb (length text) held (omega (arith, within)), s .0) refl
+sound-accepted : (w : World) (text : List ℕ) (held : ℕ) → Sound w → held < length text
+    → feedRefusal (w .session .bus) (w .memory) (w .ports) text held ≡ Refusal.accepted
+sound-accepted w text held s within = rw (s .fit, le-ltb (length text) held (omega (arith, within)), s .sense) refl
 
 pub whole-run : WholeRun
 whole-run calls text out same within none room =
-    let r = fedAll begun calls in
-    let accepted = sound-accepted (r .world) text (length (r .held)) (fed-sound calls begun fresh-is-sound) within in
+    let r = ranIn calls in
+    let sound = fed-kept answering Sound sound-turns calls (begunIn freshWorld) sound-fresh in
+    let given = sound-accepted (r .state) text (length (r .held)) sound within in
     let unended : hasNewline (take (length (r .held)) text) ≡ false = subst (λ (l : List ℕ). hasNewline l ≡ false) (sym same) none in
     ap (λ (l : List ℕ). r .said ++ l) (
-    finished-in-place (r .world) text (length (r .held)) out accepted within unended room ∙ ap (λ (l : List ℕ). answers (r .world) (textLines l)) same)
+    finished-in-place (r .state) text (length (r .held)) out given within unended room
+    ∙ ap (λ (l : List ℕ). answers (r .state) (textLines l)) same)
     ∙ any-chunks calls

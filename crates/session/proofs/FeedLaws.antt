@@ -3,9 +3,9 @@ use mathlib.Core.Path.{_≡_, refl, sym, ap, subst, _∙_}
 use mathlib.Core.Logic.{⊎-elim}
 use mathlib.Core.Bool.{Bool, true, false, cond, not, _&&_}
 use mathlib.Core.List.{List, _++_}
-use Prim.Native.Nat.{ℕ, _-_, _/_, _<_, _≤_}
+use Prim.Native.Nat.{ℕ, _-_, _≤_}
 use native.Mathlib.Omega.{arith}
-use lib.Dec.{eqb, ltb, lit<}
+use lib.Dec.{eqb, ltb}
 use lib.ListN.{length, getD, take, drop, length-set}
 use lib.Seq.{sets, length-take-le}
 use borrow.Author.Tests.{ltb-true, ltb-false}
@@ -15,39 +15,34 @@ use Rattle.bus.specs.Sense.{makesSense}
 use Rattle.bus.specs.declared.state.Bus.{Bus}
 use Rattle.judgement.specs.Refusals.{hasWrongBuffers}
 use Rattle.text.specs.Newlines.{newline}
-use Rattle.text.specs.AnswerLine.{answerLength}
 use Rattle.text.specs.Reading.{heldOf}
 use Rattle.text.proofs.ReadingLaws.{taken-rest, taken-used}
-use Rattle.session.specs.World.{World, says, turns}
-use Rattle.session.specs.Feeding.{takes, linesFor, linesTaken, feedRefusal, takenFed, heldIn, wantsNewline, endedText, endedAt}
+use Rattle.session.specs.World.{World, answering}
+use Rattle.session.specs.Feeding.{takes, linesTaken, feedRefusal, takenFed, heldIn, wantsNewline, endedText, endedAt}
 use Rattle.session.specs.declared.calls.Fed.{Fed}
 use Rattle.session.specs.declared.calls.TakenLines.{TakenLines}
-use Rattle.session.proofs.SetupLaws.{LinesTaken}
+use Rattle.session.proofs.LineLaws.{TakenAs}
 
 -- an accepted call has sound buffers and a sensible state
-pub record Sound (bus : Bus) (m p text : List ℕ) (filled : ℕ) : Type 0 where
+pub record CallAccepted (bus : Bus) (m p text : List ℕ) (filled : ℕ) : Type 0 where
   pub filled-within : filled ≤ length text
   pub fit : hasWrongBuffers m p ≡ false
   pub sense : makesSense bus ≡ true
 
-pub sound : (bus : Bus) (m p text : List ℕ) (filled : ℕ) → feedRefusal bus m p text filled ≡ 0 → Sound bus m p text filled
-sound bus m p text filled e = go (ltb (length text) filled) refl (hasWrongBuffers m p) refl (makesSense bus) refl
-  where
-    number : Bool → Bool → Bool → ℕ
-    number long wrong sense = cond long 0xFF (cond wrong 1 (cond sense 0 2))
+-- each of the three reasons has a number of its own
+accepted-by : (long wrong sense : Bool)
+    → cond long Refusal.wrongLength (cond wrong Refusal.wrongBuffers (cond sense Refusal.accepted Refusal.senseless)) ≡ Refusal.accepted
+    → (long ≡ false) × ((wrong ≡ false) × (sense ≡ true))
+accepted-by true wrong sense e = absurd (omega (arith, e))
+accepted-by false true sense e = absurd (omega (arith, e))
+accepted-by false false true e = (refl, (refl, refl))
+accepted-by false false false e = absurd (omega (arith, e))
 
-    not-zero : (n : ℕ) → 0 < n → n ≡ 0 → ⊥
-    not-zero n h e = omega (arith, h, e)
-
-    go : (long : Bool) → ltb (length text) filled ≡ long → (wrong : Bool) → hasWrongBuffers m p ≡ wrong → (sense : Bool) → makesSense bus ≡ sense
-        → Sound bus m p text filled
-    go true l w f s h = absurd (not-zero 0xFF (lit< tt) (subst (λ (t : Bool). number t (hasWrongBuffers m p) (makesSense bus) ≡ 0) l e))
-    go false l true f s h =
-        absurd (not-zero 1 (lit< tt) (subst (λ (t : Bool). number false t (makesSense bus) ≡ 0) f (subst (λ (t : Bool). number t (hasWrongBuffers m p) (makesSense bus) ≡ 0) l e)))
-    go false l false f true h = record { filled-within = ltb-false (length text) filled l; fit = f; sense = h }
-    go false l false f false h =
-        absurd (not-zero 2 (lit< tt) (subst (λ (t : Bool). number false false t ≡ 0) h
-        (subst (λ (t : Bool). number false t (makesSense bus) ≡ 0) f (subst (λ (t : Bool). number t (hasWrongBuffers m p) (makesSense bus) ≡ 0) l e))))
+pub call-accepted : (bus : Bus) (m p text : List ℕ) (filled : ℕ) → feedRefusal bus m p text filled ≡ Refusal.accepted
+    → CallAccepted bus m p text filled
+call-accepted bus m p text filled e =
+    let so = accepted-by (ltb (length text) filled) (hasWrongBuffers m p) (makesSense bus) e in
+    record { filled-within = ltb-false (length text) filled (so .0); fit = so .1 .0; sense = so .1 .1 }
 
 -- the lines that are used lie in the filled part
 pub used-within : (w : World) (text out : List ℕ) (filled : ℕ) (lines : TakenLines) → filled ≤ length text
@@ -56,7 +51,7 @@ used-within w text out filled lines h e =
     omega (
       arith,
       ap (λ (l : TakenLines). l .used) e,
-      taken-used says turns (linesFor (w .session .stage) (length out / answerLength)) w (take filled text),
+      taken-used answering (length out) w (take filled text),
       length-take-le filled text h,
     )
 
@@ -68,27 +63,30 @@ FedTaken w text out filled fed text' out' m' p' =
     × ((text' ≡ heldIn text (t .rest)) × ((out' ≡ sets out 0 (t .said)) × ((m' ≡ t .state .memory) × (p' ≡ t .state .ports))))
 
 pub fed-taken : (w : World) (text out : List ℕ) (filled : ℕ) (lines : TakenLines) (held : ℕ) (text' out' m' p' : List ℕ)
-    → LinesTaken w (take filled text) out lines out' m' p' → held ≡ length (heldOf (drop (lines .used) (take filled text)))
+    → TakenAs (takes (length out) w (take filled text)) out lines out' m' p' → held ≡ length (heldOf (drop (lines .used) (take filled text)))
     → text' ≡ heldOf (drop (lines .used) (take filled text)) ++ drop (length (heldOf (drop (lines .used) (take filled text)))) text
     → FedTaken w text out filled (record { refusal = Refusal.accepted; session = lines .session; held = held; written = lines .written }) text' out' m' p'
 fed-taken w text out filled lines held text' out' m' p' taken count left =
     let t = takes (length out) w (take filled text) in
     let rest : drop (lines .used) (take filled text) ≡ t .rest =
     ap (λ (l : TakenLines). drop (l .used) (take filled text)) (taken .0)
-    ∙ sym (taken-rest says turns (linesFor (w .session .stage) (length out / answerLength)) w (take filled text)) in (
-      ap (λ (n : ℕ). told lines n) (count ∙ ap (λ (l : List ℕ). length (heldOf l)) rest) ∙ ap (λ (l : TakenLines). told l (length (heldOf (t .rest)))) (taken .0),
+    ∙ sym (taken-rest answering (length out) w (take filled text)) in (
+      ap (λ (n : ℕ). fed-by lines n) (count ∙ ap (λ (l : List ℕ). length (heldOf l)) rest)
+          ∙ ap (λ (l : TakenLines). fed-by l (length (heldOf (t .rest)))) (taken .0),
       (left ∙ ap (heldIn text) rest, taken .1),
     )
   where
-    told : TakenLines → ℕ → Fed
-    told l n = record { refusal = Refusal.accepted; session = l .session; held = n; written = l .written }
+    fed-by : TakenLines → ℕ → Fed
+    fed-by l n = record { refusal = Refusal.accepted; session = l .session; held = n; written = l .written }
 
 -- the newline that ends the last line has room
 pub ended-within : (text : List ℕ) (held : ℕ) → held ≤ length text → endedAt text held ≤ length (endedText text held)
 ended-within text held h =
     ⊎-elim
     (λ (ends : wantsNewline text held ≡ true).
-    rw ends (omega (arith, length-set text held newline, ltb-true held (length text) (both-of (ltb 0 held) (ltb held (length text)) (both-of (ltb 0 held && ltb held (length text)) (not (eqb (getD text (held - 1) 0) newline)) ends .0) .1))))
+    let bounds = both-of (ltb 0 held && ltb held (length text)) (not (eqb (getD text (held - 1) 0) newline)) ends .0 in
+    let within = ltb-true held (length text) (both-of (ltb 0 held) (ltb held (length text)) bounds .1) in
+    rw ends (omega (arith, length-set text held newline, within)))
     (λ (goes-on : wantsNewline text held ≡ false). rw goes-on h)
     (true-or-false (wantsNewline text held))
 

@@ -2,8 +2,8 @@
 pub mod AsComputed
 pub mod CallLaws
 pub mod LineLaws
-pub mod EventsLaws
-pub mod SetupLaws
+pub mod SoundLaws
+pub mod LoopLaws
 pub mod FeedLaws
 pub mod RunPromises
 pub mod ChunkPromises

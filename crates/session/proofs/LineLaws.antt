@@ -1,18 +1,21 @@
 -- One line taken off a text, by the stage of the session and by what the line is.
-use mathlib.Core.Path.{_≡_, refl, sym, ap, _∙_}
+use mathlib.Core.Path.{_≡_, refl, sym, ap, subst, _∙_}
+use mathlib.Core.Logic.{⊎-elim}
 use mathlib.Core.Bool.{true, false}
-use mathlib.Core.List.{List, [], append-nil}
-use Prim.Native.Nat.{ℕ, suc, _+_, _≤_}
+use mathlib.Core.List.{List, [], _∷_}
+use Prim.Native.Nat.{ℕ, suc, _+_, _<_, _≤_}
 use native.Mathlib.Omega.{arith}
 use lib.Dec.{eqb}
-use lib.ListN.{length}
-use lib.Seq.{sets}
+use lib.ListN.{length, take}
+use lib.Seq.{sets, take-at}
 use borrow.Author.Tests.{eqb-true}
-use Rattle.words.proofs.TestLaws.{both-of}
+use Rattle.words.specs.Among.{everyListed}
+use Rattle.words.proofs.TestLaws.{true-or-false, both-of}
 use Rattle.bus.specs.Refusal.{badLine}
 use Rattle.bus.specs.Sense.{makesSense}
-use Rattle.judgement.specs.Refusals.{hasWrongBuffers}
 use Rattle.bus.specs.declared.state.Bus.{Bus}
+use Rattle.bus.specs.declared.state.SetupAnswer.{SetupAnswer}
+use Rattle.judgement.specs.Refusals.{hasWrongBuffers}
 use Rattle.judgement.specs.declared.event.Event.{Event}
 use Rattle.events.specs.Machine.{Machine, machine}
 use Rattle.events.specs.Answers.{bare}
@@ -20,92 +23,169 @@ use Rattle.events.specs.Step.{after, answerTo, soundAfter, soundAnswer, stepped
 use Rattle.events.specs.declared.answers.Answer.{Answer}
 use Rattle.events.specs.declared.answers.Stepped.{Stepped}
 use Rattle.events.proofs.Refused.{sound-step-is-the-step}
-use Rattle.words.specs.Among.{everyListed}
 use Rattle.text.specs.Digits.{isDigit}
-use Rattle.text.specs.Newlines.{hasNewline, firstLine, restOf}
-use Rattle.text.specs.Frames.{nextLine}
+use Rattle.text.specs.Newlines.{newline, hasNewline, firstLine, restOf}
+use Rattle.text.specs.Frames.{eventDigits, setupIn, nextLine}
 use Rattle.text.specs.declared.frames.Line.{Line}
-use Rattle.text.specs.AnswerLine.{answerLine, answerLength, printed}
-use Rattle.text.specs.Reading.{Taken, takenOff}
+use Rattle.text.specs.AnswerLine.{answerLine, answerLength, printed, bytesPut}
+use Rattle.text.specs.Reading.{Taken}
+use Rattle.text.proofs.NewlineLaws.{splits, unended, line-within}
 use Rattle.text.proofs.FrameLaws.{Framed, framed, Spoilt, spoilt, not-ended}
-use Rattle.text.proofs.ReadingLaws.{taken-line, taken-none, none-taken, printed-fits}
-use Rattle.session.specs.World.{World, world, says, turns, saysBy, turnsBy}
-use Rattle.session.specs.Feeding.{eventTaken}
-use Rattle.session.specs.declared.calls.EventLine.{EventLine}
-use Rattle.session.specs.declared.state.Stage.the-variants.{Running}
+use Rattle.text.proofs.ReadingLaws.{printed-fits, bytes-fit, answer-long}
+use Rattle.session.specs.World.{World, world, saysBy, turnsBy, setUpBy, setupAnswer, stageAfter}
+use Rattle.session.specs.Feeding.{takesFirst, linesTaken, told}
+use Rattle.session.specs.declared.state.Stage.{Stage}
+use Rattle.session.specs.declared.state.Stage.the-variants.{Awaiting, Running, Ended}
+use Rattle.session.specs.declared.calls.TakenLines.{TakenLines}
 
--- exactly one line, where there is one
-pub one-line : (w : World) (text : List ℕ) → hasNewline text ≡ true
-    → takenOff says turns 1 w text
-    ≡ record { state = turns w (firstLine text); said = says w (firstLine text); used = suc (length (firstLine text)); rest = restOf text }
-one-line w text has =
-    let none : suc (length (firstLine text)) + 0 ≡ suc (length (firstLine text)) = omega arith in
-    taken-line says turns 0 w text has
-    ∙ rw (none-taken says turns (turns w (firstLine text)) (restOf text), append-nil (says w (firstLine text)), none) refl
+-- what a function that takes lines owes: what it tells, and what it leaves of the place for the answers, of memory and of ports
+abbrev pub TakenAs : Taken World → List ℕ → TakenLines → List ℕ → List ℕ → List ℕ → Type 0
+TakenAs t out lines out' m' p' =
+    (lines ≡ linesTaken t) × ((out' ≡ sets out 0 (t .said)) × ((m' ≡ t .state .memory) × (p' ≡ t .state .ports)))
+
+-- ---- The answer has room
+
+module _ (a : Answer) (out : List ℕ) (room : answerLength ≤ length out) where
+  answer-written : (written : ℕ) → written ≡ bytesPut out → written ≡ length (answerLine a)
+  answer-written written e = e ∙ bytes-fit out room ∙ sym (answer-long a)
+
+  answer-put : (out' : List ℕ) → out' ≡ printed a out → out' ≡ sets out 0 (answerLine a)
+  answer-put out' e = e ∙ printed-fits a out room
 
 -- ---- Event lines
 
--- what one event line leaves
-pub record EventLeft (t : Taken World) (left : Machine) (bytes : List ℕ) (size : ℕ) : Type 0 where
-  pub bus : t .state .session .bus ≡ left .bus
-  pub used : t .used ≡ size
-  pub memory : t .state .memory ≡ left .memory
-  pub ports : t .state .ports ≡ left .ports
-  pub said : t .said ≡ bytes
+abbrev pub running : Machine → World
+running m = world Running (m .bus) (m .memory) (m .ports)
 
-pub event-framed : (m : Machine) (text : List ℕ) (event : Event) → Framed text event
-    → EventLeft (takenOff says turns 1 (world Running (m .bus) (m .memory) (m .ports)) text) (after m event) (answerLine (answerTo m event)) 15
+-- what an event line of so many bytes leaves
+abbrev leaves : List ℕ → Machine → List ℕ → ℕ → Taken World
+leaves text left bytes size = record { state = running left; said = bytes; used = size; rest = restOf text }
+
+event-framed : (m : Machine) (text : List ℕ) (event : Event) → Framed text event
+    → takesFirst (running m) text ≡ leaves text (after m event) (answerLine (answerTo m event)) (suc eventDigits)
 unfolding saysBy turnsBy
 event-framed m text event f =
-    let size : length (firstLine text) ≡ 14 =
-    eqb-true (length (firstLine text)) 14 (both-of (eqb (length (firstLine text)) 14) (everyListed isDigit (firstLine text)) (f .right) .0) in
-    rw (one-line (world Running (m .bus) (m .memory) (m .ports)) text (f .has), f .right, f .same, size)
-    record { bus = refl; used = refl; memory = refl; ports = refl; said = refl }
+    let size : length (firstLine text) ≡ eventDigits =
+    eqb-true (length (firstLine text)) eventDigits
+    (both-of (eqb (length (firstLine text)) eventDigits) (everyListed isDigit (firstLine text)) (f .right) .0) in
+    rw (f .has, f .right, f .same, size) refl
 
-pub event-spoilt : (m : Machine) (text : List ℕ) (size : ℕ) → Spoilt text size
-    → EventLeft (takenOff says turns 1 (world Running (m .bus) (m .memory) (m .ports)) text) m (answerLine (bare badLine)) (size + 1)
+event-spoilt : (m : Machine) (text : List ℕ) (size : ℕ) → Spoilt text size
+    → takesFirst (running m) text ≡ leaves text m (answerLine (bare badLine)) (size + 1)
 unfolding saysBy turnsBy
 event-spoilt m text size f =
     let one : suc (length (firstLine text)) ≡ size + 1 = omega (arith, f .same) in
-    rw (one-line (world Running (m .bus) (m .memory) (m .ports)) text (f .has), f .wrong, one)
-    record { bus = refl; used = refl; memory = refl; ports = refl; said = refl }
+    rw (f .has, f .wrong, one) refl
 
-pub no-event : (m : Machine) (text : List ℕ) → hasNewline text ≡ false
-    → EventLeft (takenOff says turns 1 (world Running (m .bus) (m .memory) (m .ports)) text) m [] 0
-no-event m text none =
-    rw (taken-none says turns 1 (world Running (m .bus) (m .memory) (m .ports)) text none)
-    record { bus = refl; used = refl; memory = refl; ports = refl; said = refl }
+-- such a line was taken, where its answer was put
+line-as : (t : Taken World) (text out : List ℕ) (left : Machine) (a : Answer) (size : ℕ) → t ≡ leaves text left (answerLine a) size
+    → answerLength ≤ length out → (written : ℕ) (out' : List ℕ) → written ≡ bytesPut out → out' ≡ printed a out
+    → TakenAs t out (told Running (left .bus) size written) out' (left .memory) (left .ports)
+line-as t text out left a size e room written out' count put =
+    rw (e, answer-written a out room written count) (refl, (answer-put a out room out' put, (refl, refl)))
 
--- what take_event owes: the bus and the size, the place for the answer, memory and ports
-abbrev pub TakenAs : Bus → List ℕ → List ℕ → List ℕ → List ℕ → EventLine → List ℕ → List ℕ → List ℕ → Type 0
-TakenAs bus m p rest out line out' m' p' =
-    let t = takenOff says turns 1 (world Running bus m p) rest in
-    (line ≡ eventTaken t) × ((out' ≡ sets out 0 (t .said)) × ((m' ≡ t .state .memory) × (p' ≡ t .state .ports)))
+module _ (bus : Bus) (m p rest out : List ℕ) (room : answerLength ≤ length out) (written : ℕ) (out' : List ℕ) (count : written ≡ bytesPut out) where
+  pub frame-taken : (event : Event) → Line.Frame event ≡ nextLine rest → hasWrongBuffers m p ≡ false → makesSense bus ≡ true
+      → (s : Stepped) (m' p' : List ℕ) → s ≡ stepped (soundAfter (machine bus m p) event .bus) (soundAnswer (machine bus m p) event)
+      → m' ≡ soundAfter (machine bus m p) event .memory → p' ≡ soundAfter (machine bus m p) event .ports → out' ≡ printed (s .answer) out
+      → TakenAs (takesFirst (world Running bus m p) rest) out (told Running (s .bus) (suc eventDigits) written) out' m' p'
+  frame-taken event e fit sense s m' p' is mem por put =
+      let step = sound-step-is-the-step (machine bus m p) event fit sense in
+      let left = after (machine bus m p) event in
+      let same : s ≡ stepped (left .bus) (answerTo (machine bus m p) event) =
+      is ∙ ap (λ (x : Machine). stepped (x .bus) (soundAnswer (machine bus m p) event)) (step .0) ∙ ap (stepped (left .bus)) (step .1) in
+      rw (
+        ap (λ (x : Stepped). x .bus) same,
+        mem ∙ ap (λ (x : Machine). x .memory) (step .0),
+        por ∙ ap (λ (x : Machine). x .ports) (step .0),
+      ) (
+      line-as (takesFirst (world Running bus m p) rest) rest out left (answerTo (machine bus m p) event) (suc eventDigits)
+      (event-framed (machine bus m p) rest event (framed rest event e)) room written out' count
+      (put ∙ ap (λ (x : Stepped). printed (x .answer) out) same))
 
-taken-as : (bus : Bus) (m p rest out : List ℕ) (left : Machine) (bytes : List ℕ) (size : ℕ)
-    → EventLeft (takenOff says turns 1 (world Running bus m p) rest) left bytes size
-    → (out' : List ℕ) → out' ≡ sets out 0 bytes → TakenAs bus m p rest out (record { bus = left .bus; used = size }) out' (left .memory) (left .ports)
-taken-as bus m p rest out left bytes size l out' e = (rw (l .bus, l .used) refl, (e ∙ ap (sets out 0) (sym (l .said)), (sym (l .memory), sym (l .ports))))
+  pub bad-taken : (size : ℕ) → Line.Bad size ≡ nextLine rest → (a : Answer) → a ≡ bare badLine → out' ≡ printed a out
+      → TakenAs (takesFirst (world Running bus m p) rest) out (told Running bus (size + 1) written) out' m p
+  bad-taken size e a is put =
+      line-as (takesFirst (world Running bus m p) rest) rest out (machine bus m p) (bare badLine) (size + 1)
+      (event-spoilt (machine bus m p) rest size (spoilt rest size e)) room written out' count (put ∙ ap (λ (x : Answer). printed x out) is)
 
-pub frame-taken : (bus : Bus) (m p rest out : List ℕ) (event : Event) → Line.Frame event ≡ nextLine rest → answerLength ≤ length out
-    → hasWrongBuffers m p ≡ false → makesSense bus ≡ true → (s : Stepped) (out' m' p' : List ℕ)
-    → s ≡ stepped (soundAfter (machine bus m p) event .bus) (soundAnswer (machine bus m p) event) → m' ≡ soundAfter (machine bus m p) event .memory
-    → p' ≡ soundAfter (machine bus m p) event .ports → out' ≡ printed (s .answer) out
-    → TakenAs bus m p rest out (record { bus = s .bus; used = 15 }) out' m' p'
-frame-taken bus m p rest out event e room fit sense s out' m' p' is mem por put =
-    let step = sound-step-is-the-step (machine bus m p) event fit sense in
-    let same : s ≡ stepped (after (machine bus m p) event .bus) (answerTo (machine bus m p) event) =
-    is ∙ ap (λ (left : Machine). stepped (left .bus) (soundAnswer (machine bus m p) event)) (step .0)
-    ∙ ap (stepped (after (machine bus m p) event .bus)) (step .1) in
-    let there = put ∙ printed-fits (s .answer) out room ∙ ap (λ (r : Stepped). sets out 0 (answerLine (r .answer))) same in
-    rw (ap (λ (r : Stepped). r .bus) same, mem ∙ ap (λ (left : Machine). left .memory) (step .0), por ∙ ap (λ (left : Machine). left .ports) (step .0))
-    (taken-as bus m p rest out (after (machine bus m p) event) (answerLine (answerTo (machine bus m p) event)) 15 (event-framed (machine bus m p) rest event (framed rest event e)) out' there)
+-- no line has ended
+pub none-taken : (w : World) (text out : List ℕ) → hasNewline text ≡ false
+    → TakenAs (takesFirst w text) out (record { session = w .session; used = 0; written = 0 }) out (w .memory) (w .ports)
+none-taken w text out none = rw none (refl, (refl, (refl, refl)))
 
-pub bad-taken : (bus : Bus) (m p rest out : List ℕ) (size : ℕ) → Line.Bad size ≡ nextLine rest → answerLength ≤ length out → (a : Answer) (out' : List ℕ)
-    → a ≡ bare badLine → out' ≡ printed a out → TakenAs bus m p rest out (record { bus = bus; used = size + 1 }) out' m p
-bad-taken bus m p rest out size e room a out' is put =
-    taken-as bus m p rest out (machine bus m p) (answerLine (bare badLine)) (size + 1) (event-spoilt (machine bus m p) rest size (spoilt rest size e)) out'
-    (put ∙ printed-fits a out room ∙ ap (λ (x : Answer). sets out 0 (answerLine x)) is)
+pub none-ended : (bus : Bus) (m p rest out : List ℕ) → Line.Unended ≡ nextLine rest
+    → TakenAs (takesFirst (world Running bus m p) rest) out (told Running bus 0 0) out m p
+none-ended bus m p rest out e = none-taken (world Running bus m p) rest out (not-ended rest e)
 
-pub none-ended : (bus : Bus) (m p rest out : List ℕ) → Line.Unended ≡ nextLine rest → TakenAs bus m p rest out (record { bus = bus; used = 0 }) out m p
-none-ended bus m p rest out e = taken-as bus m p rest out (machine bus m p) [] 0 (no-event (machine bus m p) rest (not-ended rest e)) out refl
+-- ---- Where a line ends
+
+-- the first line stands at the front
+line-front : (text : List ℕ) → hasNewline text ≡ true → take (length (firstLine text)) text ≡ firstLine text
+line-front text has =
+    ap (take (length (firstLine text))) (splits text has) ∙ take-at (firstLine text) (newline ∷ restOf text) (length (firstLine text)) refl
+
+-- the code asks for a newline by where the line ends
+ends-within : (text : List ℕ) (end : ℕ) → end ≡ length (firstLine text) → end < length text → hasNewline text ≡ true
+ends-within text end e within =
+    ⊎-elim (λ has. has) (λ none. absurd (omega (arith, e, within, ap length (unended text none)))) (true-or-false (hasNewline text))
+
+ends-beyond : (text : List ℕ) (end : ℕ) → end ≡ length (firstLine text) → length text ≤ end → hasNewline text ≡ false
+ends-beyond text end e beyond =
+    ⊎-elim (λ has. absurd (omega (arith, e, beyond, line-within text has))) (λ none. none) (true-or-false (hasNewline text))
+
+-- ---- The setup line, and lines after a refused one: they go by neither memory nor ports
+
+-- what a function that isn't given these owes
+abbrev pub TakenAlone : Stage → Bus → List ℕ → List ℕ → TakenLines → List ℕ → Type 0
+TakenAlone stage bus text out lines out' =
+    ((m p : List ℕ) → lines ≡ linesTaken (takesFirst (world stage bus m p) text))
+    × ((m p : List ℕ) → out' ≡ sets out 0 (takesFirst (world stage bus m p) text .said))
+
+pub setup-taken : (bus : Bus) (text out : List ℕ) (end : ℕ) → end ≡ length (firstLine text) → end < length text → answerLength ≤ length out
+    → (given : SetupAnswer) (written : ℕ) (out' : List ℕ) → given ≡ setUpBy (setupIn (take end text)) → written ≡ bytesPut out
+    → out' ≡ printed (setupAnswer given) out → TakenAlone Awaiting bus text out (told (stageAfter given) (given .bus) (end + 1) written) out'
+unfolding saysBy turnsBy
+setup-taken bus text out end e within room given written out' is count put =
+    let has = ends-within text end e within in
+    let line : take end text ≡ firstLine text = ap (λ (k : ℕ). take k text) e ∙ line-front text has in
+    let size : suc (length (firstLine text)) ≡ end + 1 = omega (arith, e) in
+    let same : setUpBy (setupIn (firstLine text)) ≡ given = sym (is ∙ ap (λ (l : List ℕ). setUpBy (setupIn l)) line) in
+    let bytes = answer-written (setupAnswer given) out room written count in
+    rw (has, same, size, bytes) ((λ m p. refl), (λ m p. answer-put (setupAnswer given) out room out' put))
+
+pub passed : (bus : Bus) (text : List ℕ) (end : ℕ) → end ≡ length (firstLine text) → end < length text → (m p : List ℕ)
+    → told Ended bus (end + 1) 0 ≡ linesTaken (takesFirst (world Ended bus m p) text)
+unfolding saysBy turnsBy
+passed bus text end e within m p =
+    let size : suc (length (firstLine text)) ≡ end + 1 = omega (arith, e) in rw (ends-within text end e within, size) refl
+
+pub not-taken : (stage : Stage) (bus : Bus) (text out : List ℕ) (end : ℕ) → end ≡ length (firstLine text) → length text ≤ end
+    → TakenAlone stage bus text out (told stage bus 0 0) out
+not-taken stage bus text out end e beyond = rw (ends-beyond text end e beyond) ((λ m p. refl), (λ m p. refl))
+
+-- ---- By the stage
+
+abbrev Keeps : Stage → Bus → List ℕ → Type 0
+Keeps stage bus text =
+    (m p : List ℕ)
+    → (m ≡ takesFirst (world stage bus m p) text .state .memory) × (p ≡ takesFirst (world stage bus m p) text .state .ports)
+
+pub awaiting-keeps : (bus : Bus) (text : List ℕ) → Keeps Awaiting bus text
+unfolding turnsBy
+awaiting-keeps bus text m p = ⊎-elim (λ has. rw has (refl, refl)) (λ none. rw none (refl, refl)) (true-or-false (hasNewline text))
+
+pub ended-keeps : (bus : Bus) (text : List ℕ) → Keeps Ended bus text
+unfolding turnsBy
+ended-keeps bus text m p = ⊎-elim (λ has. rw has (refl, refl)) (λ none. rw none (refl, refl)) (true-or-false (hasNewline text))
+
+-- once the run has ended nothing is said
+pub ended-silent : (bus : Bus) (m p text out : List ℕ) → out ≡ sets out 0 (takesFirst (world Ended bus m p) text .said)
+unfolding saysBy
+ended-silent bus m p text out = ⊎-elim (λ has. rw has refl) (λ none. rw none refl) (true-or-false (hasNewline text))
+
+-- the stage that was found
+pub at-stage : (stage found : Stage) (bus : Bus) (m p text out : List ℕ) (lines : TakenLines) (out' m' p' : List ℕ) → stage ≡ found
+    → TakenAs (takesFirst (world found bus m p) text) out lines out' m' p' → TakenAs (takesFirst (world stage bus m p) text) out lines out' m' p'
+at-stage stage found bus m p text out lines out' m' p' e =
+    subst (λ (s : Stage). TakenAs (takesFirst (world s bus m p) text) out lines out' m' p') (sym e)

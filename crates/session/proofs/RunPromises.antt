@@ -1,42 +1,46 @@
 -- What each line is answered and leads to, and the whole output.
-use mathlib.Core.Path.{_≡_, refl, sym, ap, subst, _∙_}
+use mathlib.Core.Path.{_≡_, refl, sym, ap, ap₂, subst, _∙_}
 use mathlib.Core.Logic.{_⊎_, ⊎-elim}
 use mathlib.Core.Bool.{Bool, true, false, false≢true}
 use mathlib.Core.List.{List, [], _∷_, _++_, append-nil}
-use Prim.Native.Nat.{ℕ, zero, suc, _*_, _<_, _≤_}
+use Prim.Native.Nat.{ℕ, zero, suc, _+_, _-_, _*_, _<_, _≤_}
 use native.Mathlib.Decide.{decLe, ℕ-discrete}
 use native.Mathlib.Omega.{arith}
 use lib.Dec.{eqb}
-use lib.ListN.{length, take, drop, replicate, length-append, length-replicate, length-take, length-drop, length-map, getD}
-use lib.Seq.{take-all}
-use borrow.Author.Tests.{eqb-true, eq-eqb, ne-eqb}
-use Rattle.words.specs.Among.{everyListed}
+use lib.ListN.{length, take, drop, replicate, length-append, length-take, length-drop, length-map, getD, List·getD-map}
+use lib.Seq.{take-all, getD-take, getD-drop}
+use borrow.Author.Tests.{eqb-true, eq-eqb, ne-eqb, le-leb}
+use Rattle.words.specs.Below.{orBelow}
+use Rattle.words.specs.Among.{everyListed, beside}
 use Rattle.words.proofs.TestLaws.{true-or-false, both-of}
+use Rattle.lines.specs.Arbitration.{shown}
+use Rattle.phases.specs.Phase as Phase
+use Rattle.phases.specs.Signal.{signalsIn}
+use Rattle.memory.specs.Cycles.{nothing}
 use Rattle.bus.specs.Refusal as Refusal
-use Rattle.bus.specs.Sense.{makesSense, pagesKnown}
+use Rattle.bus.specs.Sense.{codesKnown}
+use Rattle.bus.specs.State.{freeBus}
 use Rattle.bus.specs.Setup.{emptyBus}
 use Rattle.bus.specs.declared.state.Bus.{Bus}
-use Rattle.judgement.specs.Refusals.{hasWrongBuffers}
-use Rattle.events.specs.Machine.{Machine}
-use Rattle.events.specs.Answers.{bare}
-use Rattle.events.specs.Step.{after, refusalIn}
+use Rattle.bus.specs.declared.state.SetupAnswer.{SetupAnswer}
+use Rattle.events.specs.Machine.{Machine, machine}
+use Rattle.events.specs.Answers.{answerWith, bare}
+use Rattle.events.specs.Step.{refusalIn}
 use Rattle.events.proofs.Refused.{refused-keeps}
-use Rattle.events.proofs.Stays.{lengths-kept}
-use Rattle.text.specs.Digits.{isDigit, isDigits, valueOf}
+use Rattle.text.specs.Digits.{isDigit, isDigits, valueOf, digitsOf}
 use Rattle.text.specs.Newlines.{lastLine, linesAfter, textLines}
-use Rattle.text.specs.Frames.{eventDigits, eventIn, setupDigits, setupIn, part, fittedIn, pagesIn}
-use Rattle.text.specs.AnswerLine.{answerLine}
-use Rattle.text.specs.Reading.{answersTo}
+use Rattle.text.specs.Frames.{eventDigits, eventIn, setupDigits, longest, setupIn, digitsFrom, pagesIn, chassisIn}
+use Rattle.text.specs.AnswerLine.{answerLine, answerLength}
+use Rattle.text.specs.Reading.{answersTo, mostHeld}
 use Rattle.text.specs.declared.frames.SetupLine.{SetupLine}
 use Rattle.text.proofs.ReadingLaws.{answer-long}
-use Rattle.session.specs.World.{World, world, says, turns, saysBy, turnsBy, setUpBy, setupAnswer, afterEvent, machineOf, freshWorld}
+use Rattle.session.specs.World.{World, world, says, turns, saysBy, turnsBy, setUpBy, setupAnswer, eventAnswer, afterEvent, freshWorld}
 use Rattle.session.specs.Output.{answers}
-use Rattle.session.specs.Promises.{EventTakesItsStep, BadLineAnswers, RefusedLineKeeps, RefusedSetupEnds, CutChangesNothing, EmptyPrintsNothing, OneAnswerALine, StaysSound, StartsAtZero, FreshIsSound, setupNumber, answered}
+use Rattle.session.specs.Promises.{EventTakesItsStep, BadLineAnswers, RefusedLineKeeps, AcceptedSetupLeads, RefusedSetupEnds}
+use Rattle.session.specs.Promises.{EndedStays, CutChangesNothing, EmptyPrintsNothing, OneAnswerALine, StartsAtZero, setupNumber, answered}
 use Rattle.session.specs.declared.state.Stage.{Stage}
 use Rattle.session.specs.declared.state.Stage.the-variants.{Awaiting, Running, Ended}
-use Rattle.bus.proofs.SetUp.{setup-makes-sense}
-use Rattle.session.proofs.CallLaws.{nothing-set-up}
-use Rattle.session.proofs.EventsLaws.{running-says, fit-kept, sense-after}
+use Rattle.bus.proofs.SetUp.{setup-accepts}
 
 -- ---- Events
 
@@ -49,7 +53,8 @@ unfolding saysBy
 bad-line-answers m line wrong = rw wrong refl
 
 -- a bad line keeps the machine, and so does a refused event
-kept-after : (m : Machine) (line : List ℕ) → (isDigits eventDigits line ≡ false) ⊎ (refusalIn m (eventIn line) ≡ Refusal.accepted → ⊥) → afterEvent m line ≡ m
+kept-after : (m : Machine) (line : List ℕ) → (isDigits eventDigits line ≡ false) ⊎ (refusalIn m (eventIn line) ≡ Refusal.accepted → ⊥)
+    → afterEvent m line ≡ m
 kept-after m line why =
     ⊎-elim
     (λ (right : isDigits eventDigits line ≡ true).
@@ -63,11 +68,66 @@ refused-line-keeps m line why = ap (λ (left : Machine). world Running (left .bu
 
 -- ---- Setup
 
+module _ (line : List ℕ) (right : isDigits setupDigits line ≡ true) (low : (p : ℕ) → p < 16 → getD line (4 + p) 0 ≤ 0x32) where
+  -- a digit of 0, 1 or 2 stands for itself
+  low-value : (b : ℕ) → b ≤ 0x32 → valueOf b ≡ b - 0x30
+  low-value b h = rw (le-leb b 0x39 (omega (arith, h))) refl
+
+  page-at : (p : ℕ) → p < 16 → getD (pagesIn line) p 0 ≡ getD line (4 + p) 0 - 0x30
+  page-at p h =
+      List·getD-map valueOf (digitsFrom 4 16 line) p 0
+      ∙ ap valueOf (getD-take 16 (drop 4 line) p 0 h ∙ getD-drop 4 line p 0)
+      ∙ low-value (getD line (4 + p) 0) (low p h)
+
+  sixteen : length (pagesIn line) ≡ 16
+  sixteen =
+      let size = eqb-true (length line) setupDigits (both-of (eqb (length line) setupDigits) (everyListed isDigit line) right .0) in
+      length-map (digitsFrom 4 16 line) valueOf ∙ omega (arith, length-take 16 (drop 4 line), length-drop 4 line, size)
+
+  set-up-as-written : setUpBy (setupIn line) ≡ record { answer = Refusal.accepted; bus = freeBus (chassisIn line) }
+  set-up-as-written =
+      let each : (p : ℕ) → p < length (pagesIn line) → getD (pagesIn line) p 0 ≤ 2 =
+      λ p h. omega (arith, page-at p (omega (arith, h, sixteen)), low p (omega (arith, h, sixteen))) in
+      rw right (
+      let so = setup-accepts (chassisIn line) each in
+      ap₂ (λ (n : ℕ) (bus : Bus). answered-with n bus) (so .0) (so .1))
+    where
+      answered-with : ℕ → Bus → SetupAnswer
+      answered-with n bus = record { answer = n; bus = bus }
+
+  accepted-says : (bus : Bus) (m p : List ℕ)
+      → says (world Awaiting bus m p) line ≡ answerLine (answerWith Refusal.accepted (freeBus (chassisIn line)) (signalsIn Phase.free) 0 nothing)
+  unfolding saysBy
+  accepted-says bus m p = rw set-up-as-written refl
+
+  accepted-turns : (bus : Bus) (m p : List ℕ) → turns (world Awaiting bus m p) line ≡ world Running (freeBus (chassisIn line)) m p
+  unfolding turnsBy
+  accepted-turns bus m p = rw set-up-as-written refl
+
+pub accepted-setup-leads : AcceptedSetupLeads
+unfolding beside signalsIn orBelow shown digitsOf
+accepted-setup-leads bus m p line right low = (
+  accepted-says line right low bus m p,
+  rw (accepted-turns line right low bus m p) (record {
+    running = refl;
+    fitted = refl;
+    pages = page-at line right low;
+    noMorePages = sixteen line right low;
+    phase = refl;
+    contenders = refl;
+    driven = refl;
+    granted = refl;
+    memoryKept = refl;
+    portsKept = refl;
+  }),
+)
+
 -- either refusal leaves an empty chassis
 refused-empty : (line : SetupLine) → (setUpBy line .answer ≡ Refusal.accepted → ⊥) → setUpBy line .bus ≡ emptyBus
-refused-empty line refused = go (eqb (line .refusal) Refusal.accepted) refl (pagesKnown (line .pages)) refl
+refused-empty line refused = go (eqb (line .refusal) Refusal.accepted) refl (codesKnown (line .chassis)) refl
   where
-    go : (right : Bool) → eqb (line .refusal) Refusal.accepted ≡ right → (known : Bool) → pagesKnown (line .pages) ≡ known → setUpBy line .bus ≡ emptyBus
+    go : (right : Bool) → eqb (line .refusal) Refusal.accepted ≡ right → (known : Bool) → codesKnown (line .chassis) ≡ known
+        → setUpBy line .bus ≡ emptyBus
     go true r true k = absurd (refused (rw (r, k) refl))
     go true r false k = rw (r, k) refl
     go false r known k = rw r refl
@@ -77,12 +137,14 @@ unfolding answersTo saysBy turnsBy
 ended-silent bus m p [] = refl
 ended-silent bus m p (line ∷ lines) = ended-silent bus m p lines
 
-refused-turn : (bus : Bus) (m p line : List ℕ) → (setupNumber line ≡ Refusal.accepted → ⊥) → turns (world Awaiting bus m p) line ≡ world Ended emptyBus m p
+refused-turn : (bus : Bus) (m p line : List ℕ) → (setupNumber line ≡ Refusal.accepted → ⊥)
+    → turns (world Awaiting bus m p) line ≡ world Ended emptyBus m p
 unfolding turnsBy
 refused-turn bus m p line refused =
     rw (refused-empty (setupIn line) refused, ne-eqb (setupNumber line) Refusal.accepted refused) refl
 
-refused-says : (bus : Bus) (m p line : List ℕ) → (setupNumber line ≡ Refusal.accepted → ⊥) → says (world Awaiting bus m p) line ≡ answerLine (bare (setupNumber line))
+refused-says : (bus : Bus) (m p line : List ℕ) → (setupNumber line ≡ Refusal.accepted → ⊥)
+    → says (world Awaiting bus m p) line ≡ answerLine (bare (setupNumber line))
 unfolding saysBy
 refused-says bus m p line refused = rw (ne-eqb (setupNumber line) Refusal.accepted refused) refl
 
@@ -100,34 +162,40 @@ refused-setup-ends bus m p line lines refused = (
   refused-turn bus m p line refused,
 )
 
+pub ended-stays : EndedStays
+unfolding saysBy turnsBy
+ended-stays w line e = rw e (refl, refl)
+
 -- ---- What lies beyond the longest right line
 
 -- a line longer than that is wrong, cut or not
-too-long : (count : ℕ) (line : List ℕ) → count ≤ 20 → 20 < length line → isDigits count line ≡ false
+too-long : (count : ℕ) (line : List ℕ) → count ≤ longest → longest < length line → isDigits count line ≡ false
 too-long count line h long = rw (ne-eqb (length line) count (λ e. omega (arith, h, long, e))) refl
 
-cut-either : (P : List ℕ → List ℕ → Type 0) (line : List ℕ) → ((l : List ℕ) → P l l) → (20 < length (take 21 line) → 20 < length line → P (take 21 line) line) → P (take 21 line) line
-cut-either P line same long = go (decLe (length line) 21)
+cut-either : (P : List ℕ → List ℕ → Type 0) (line : List ℕ) → ((l : List ℕ) → P l l)
+    → (longest < length (take mostHeld line) → longest < length line → P (take mostHeld line) line) → P (take mostHeld line) line
+cut-either P line same long = go (decLe (length line) mostHeld)
   where
-    go : Dec (length line ≤ 21) → P (take 21 line) line
-    go (yes h) = subst (λ (l : List ℕ). P l line) (sym (take-all 21 line h)) (same line)
-    go (no h) = long (omega (arith, length-take 21 line)) (omega arith)
+    go : Dec (length line ≤ mostHeld) → P (take mostHeld line) line
+    go (yes h) = subst (λ (l : List ℕ). P l line) (sym (take-all mostHeld line h)) (same line)
+    go (no h) = long (omega (arith, length-take mostHeld line)) (omega arith)
 
-cut-setup : (line : List ℕ) → setupIn (take 21 line) ≡ setupIn line
+cut-setup : (line : List ℕ) → setupIn (take mostHeld line) ≡ setupIn line
 cut-setup line =
     cut-either (λ a b. setupIn a ≡ setupIn b) line (λ l. refl)
-    (λ ha hb. rw (too-long 20 (take 21 line) (omega arith) ha, too-long 20 line (omega arith) hb) refl)
+    (λ ha hb. rw (too-long setupDigits (take mostHeld line) (omega arith) ha, too-long setupDigits line (omega arith) hb) refl)
 
-cut-event : (P : List ℕ → Type 0) (line : List ℕ) → P line → (isDigits eventDigits (take 21 line) ≡ false → isDigits eventDigits line ≡ false → P (take 21 line)) → P (take 21 line)
+cut-event : (P : List ℕ → Type 0) (line : List ℕ) → P line
+    → (isDigits eventDigits (take mostHeld line) ≡ false → isDigits eventDigits line ≡ false → P (take mostHeld line)) → P (take mostHeld line)
 cut-event P line whole long =
     cut-either (λ a b. P b → P a) line (λ l p. p)
-    (λ ha hb p. long (too-long 14 (take 21 line) (omega arith) ha) (too-long 14 line (omega arith) hb)) whole
+    (λ ha hb p. long (too-long eventDigits (take mostHeld line) (omega arith) ha) (too-long eventDigits line (omega arith) hb)) whole
 
 pub cut-changes-nothing : CutChangesNothing
 unfolding saysBy turnsBy
 cut-changes-nothing w line = go (w .session .stage) refl
   where
-    go : (stage : Stage) → w .session .stage ≡ stage → (says w (take 21 line) ≡ says w line) × (turns w (take 21 line) ≡ turns w line)
+    go : (stage : Stage) → w .session .stage ≡ stage → (says w (take mostHeld line) ≡ says w line) × (turns w (take mostHeld line) ≡ turns w line)
     go Awaiting e = rw (e, cut-setup line) (refl, refl)
     go Running e =
         rw e (cut-event (λ l. (saysBy Running w l ≡ saysBy Running w line) × (turnsBy Running w l ≡ turnsBy Running w line)) line (refl, refl)
@@ -144,13 +212,18 @@ pub none-said : (w : World) → answers w [] ≡ []
 unfolding answersTo
 none-said w = refl
 
+running-says : (bus : Bus) (m p line : List ℕ) → length (says (world Running bus m p) line) ≡ answerLength
+unfolding saysBy
+running-says bus m p line = answer-long (eventAnswer (machine bus m p) line)
+
 running-turn : (bus : Bus) (m p line : List ℕ) (lines : List (List ℕ))
-    → ((b : Bus) (n q : List ℕ) → length (answers (world Running b n q) lines) ≡ length lines * 19)
-    → length (answers (turns (world Running bus m p) line) lines) ≡ length lines * 19
+    → ((b : Bus) (n q : List ℕ) → length (answers (world Running b n q) lines) ≡ length lines * answerLength)
+    → length (answers (turns (world Running bus m p) line) lines) ≡ length lines * answerLength
 unfolding turnsBy
 running-turn bus m p line lines so = so _ _ _
 
-running-long : (lines : List (List ℕ)) (bus : Bus) (m p : List ℕ) → length (answers (world Running bus m p) lines) ≡ length lines * 19
+running-long : (lines : List (List ℕ)) (bus : Bus) (m p : List ℕ)
+    → length (answers (world Running bus m p) lines) ≡ length lines * answerLength
 running-long [] bus m p = ap length (none-said (world Running bus m p))
 running-long (line ∷ lines) bus m p =
     ap length (one-said (world Running bus m p) line lines)
@@ -159,20 +232,22 @@ running-long (line ∷ lines) bus m p =
 
 -- after an accepted setup every line is an event
 accepted-turn : (bus : Bus) (m p line : List ℕ) (lines : List (List ℕ)) → setupNumber line ≡ Refusal.accepted
-    → length (answers (turns (world Awaiting bus m p) line) lines) ≡ length lines * 19
+    → length (answers (turns (world Awaiting bus m p) line) lines) ≡ length lines * answerLength
 unfolding turnsBy
 accepted-turn bus m p line lines taken = rw (eq-eqb (setupNumber line) Refusal.accepted taken) (running-long lines _ m p)
 
-awaiting-says : (bus : Bus) (m p line : List ℕ) → length (says (world Awaiting bus m p) line) ≡ 19
+awaiting-says : (bus : Bus) (m p line : List ℕ) → length (says (world Awaiting bus m p) line) ≡ answerLength
 unfolding saysBy
 awaiting-says bus m p line = answer-long (setupAnswer (setUpBy (setupIn line)))
 
-awaiting-long : (bus : Bus) (m p : List ℕ) (lines : List (List ℕ)) → length (answers (world Awaiting bus m p) lines) ≡ answered lines * 19
+awaiting-long : (bus : Bus) (m p : List ℕ) (lines : List (List ℕ))
+    → length (answers (world Awaiting bus m p) lines) ≡ answered lines * answerLength
 unfolding answered
 awaiting-long bus m p [] = ap length (none-said (world Awaiting bus m p))
 awaiting-long bus m p (line ∷ lines) = go (ℕ-discrete (setupNumber line) Refusal.accepted)
   where
-    go : Dec (setupNumber line ≡ Refusal.accepted) → length (answers (world Awaiting bus m p) (line ∷ lines)) ≡ answered (line ∷ lines) * 19
+    go : Dec (setupNumber line ≡ Refusal.accepted)
+        → length (answers (world Awaiting bus m p) (line ∷ lines)) ≡ answered (line ∷ lines) * answerLength
     go (yes taken) =
         rw (eq-eqb (setupNumber line) Refusal.accepted taken) (
         ap length (one-said (world Awaiting bus m p) line lines)
@@ -186,37 +261,7 @@ pub one-answer-a-line : OneAnswerALine
 unfolding freshWorld
 one-answer-a-line text = awaiting-long emptyBus (freshWorld .memory) (freshWorld .ports) (textLines text)
 
--- ---- Sound
-
-empty-sense : makesSense emptyBus ≡ true
-empty-sense = subst (λ (bus : Bus). makesSense bus ≡ true) nothing-set-up (setup-makes-sense 0 (replicate 16 0) refl)
-
-set-up-sense : (line : List ℕ) → makesSense (setUpBy (setupIn line) .bus) ≡ true
-set-up-sense line =
-    ⊎-elim
-    (λ (right : isDigits setupDigits line ≡ true).
-    let size : length line ≡ 20 = eqb-true (length line) 20 (both-of (eqb (length line) 20) (everyListed isDigit line) right .0) in
-    let pages : length (pagesIn line) ≡ 16 = length-map (part 4 16 line) valueOf ∙ omega (arith, length-take 16 (drop 4 line), length-drop 4 line, size) in
-    rw right (setup-makes-sense (fittedIn line) (pagesIn line) pages))
-    (λ (wrong : isDigits setupDigits line ≡ false). rw wrong empty-sense)
-    (true-or-false (isDigits setupDigits line))
-
-after-fit : (m : Machine) (line : List ℕ) → hasWrongBuffers (m .memory) (m .ports) ≡ false → hasWrongBuffers (afterEvent m line .memory) (afterEvent m line .ports) ≡ false
-after-fit m line fit =
-    ⊎-elim
-    (λ right. rw right (let kept = lengths-kept m (eventIn line) in fit-kept (m .memory) (m .ports) (after m (eventIn line) .memory) (after m (eventIn line) .ports) (kept .0) (kept .1) fit))
-    (λ wrong. rw wrong fit)
-    (true-or-false (isDigits eventDigits line))
-
-pub stays-sound : StaysSound
-unfolding turnsBy
-stays-sound w line sense fit = go (w .session .stage) refl
-  where
-    go : (stage : Stage) → w .session .stage ≡ stage
-        → (makesSense (turns w line .session .bus) ≡ true) × (hasWrongBuffers (turns w line .memory) (turns w line .ports) ≡ false)
-    go Awaiting e = rw e (set-up-sense line, fit)
-    go Running e = rw e (sense-after (machineOf w) line sense, after-fit (machineOf w) line fit)
-    go Ended e = rw e (sense, fit)
+-- ---- Before the first line
 
 zeros : (n k : ℕ) → getD {A = ℕ} (replicate n 0) k 0 ≡ 0
 zeros zero k = refl
@@ -226,11 +271,3 @@ zeros (suc n) (suc k) = zeros n k
 pub starts-at-zero : StartsAtZero
 unfolding freshWorld
 starts-at-zero k = (zeros 0x10000 k, zeros 0x100 k)
-
-fit-by-lengths : (m p : List ℕ) → length m ≡ 0x10000 → length p ≡ 0x100 → hasWrongBuffers m p ≡ false
-fit-by-lengths m p em ep = rw (em, ep) refl
-
-pub fresh-is-sound : FreshIsSound
-unfolding freshWorld
-fresh-is-sound =
-    (empty-sense, fit-by-lengths (freshWorld .memory) (freshWorld .ports) (length-replicate {A = ℕ} 0x10000 0) (length-replicate {A = ℕ} 0x100 0))

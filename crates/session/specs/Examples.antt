@@ -10,16 +10,13 @@ use Rattle.bus.specs.Setup.{emptyBus}
 use Rattle.bus.specs.declared.state.Bus.{Bus}
 use Rattle.judgement.specs.Refusals.{hasWrongBuffers}
 use Rattle.text.specs.Newlines.{newline}
+use Rattle.text.specs.Examples.{setup}
 use Rattle.session.specs.World.{fresh}
 use Rattle.session.specs.Feeding.{feedRefusal}
 use Rattle.session.specs.Output.{output}
 use Rattle.session.specs.declared.state.Stage.the-variants.{Awaiting}
 
--- a setup line: cards 1 and 3, page 0 of eight bits, page 1 of sixteen (01's printed run)
-abbrev pub setup : List ℕ
-setup = 0x30 ∷ 0x30 ∷ 0x30 ∷ 0x41 ∷ 0x31 ∷ 0x32 ∷ 0x30 ∷ 0x30 ∷ 0x30 ∷ 0x30 ∷ 0x30 ∷ 0x30 ∷ 0x30 ∷ 0x30 ∷ 0x30 ∷ 0x30 ∷ 0x30 ∷ 0x30 ∷ 0x30 ∷ 0x30 ∷ []
-
--- the same with a page code 3, a digit short, and with a lower-case letter
+-- 01's setup line with a page code 3, a digit short, and with a lower-case letter
 abbrev pub page3 : List ℕ
 page3 = 0x30 ∷ 0x30 ∷ 0x30 ∷ 0x41 ∷ 0x31 ∷ 0x33 ∷ 0x30 ∷ 0x30 ∷ 0x30 ∷ 0x30 ∷ 0x30 ∷ 0x30 ∷ 0x30 ∷ 0x30 ∷ 0x30 ∷ 0x30 ∷ 0x30 ∷ 0x30 ∷ 0x30 ∷ 0x30 ∷ []
 
@@ -30,8 +27,8 @@ abbrev pub lower : List ℕ
 lower = 0x30 ∷ 0x30 ∷ 0x30 ∷ 0x61 ∷ 0x31 ∷ 0x32 ∷ 0x30 ∷ 0x30 ∷ 0x30 ∷ 0x30 ∷ 0x30 ∷ 0x30 ∷ 0x30 ∷ 0x30 ∷ 0x30 ∷ 0x30 ∷ 0x30 ∷ 0x30 ∷ 0x30 ∷ 0x30 ∷ []
 
 -- answer lines: 0000FF000000000000, 0B and 0C with zeros
-abbrev pub free : List ℕ
-free = 0x30 ∷ 0x30 ∷ 0x30 ∷ 0x30 ∷ 0x46 ∷ 0x46 ∷ 0x30 ∷ 0x30 ∷ 0x30 ∷ 0x30 ∷ 0x30 ∷ 0x30 ∷ 0x30 ∷ 0x30 ∷ 0x30 ∷ 0x30 ∷ 0x30 ∷ 0x30 ∷ 0x0A ∷ []
+abbrev pub freeLine : List ℕ
+freeLine = 0x30 ∷ 0x30 ∷ 0x30 ∷ 0x30 ∷ 0x46 ∷ 0x46 ∷ 0x30 ∷ 0x30 ∷ 0x30 ∷ 0x30 ∷ 0x30 ∷ 0x30 ∷ 0x30 ∷ 0x30 ∷ 0x30 ∷ 0x30 ∷ 0x30 ∷ 0x30 ∷ 0x0A ∷ []
 
 abbrev pub pageRefused : List ℕ
 pageRefused = 0x30 ∷ 0x42 ∷ 0x30 ∷ 0x30 ∷ 0x30 ∷ 0x30 ∷ 0x30 ∷ 0x30 ∷ 0x30 ∷ 0x30 ∷ 0x30 ∷ 0x30 ∷ 0x30 ∷ 0x30 ∷ 0x30 ∷ 0x30 ∷ 0x30 ∷ 0x30 ∷ 0x0A ∷ []
@@ -40,9 +37,9 @@ abbrev pub lineRefused : List ℕ
 lineRefused = 0x30 ∷ 0x43 ∷ 0x30 ∷ 0x30 ∷ 0x30 ∷ 0x30 ∷ 0x30 ∷ 0x30 ∷ 0x30 ∷ 0x30 ∷ 0x30 ∷ 0x30 ∷ 0x30 ∷ 0x30 ∷ 0x30 ∷ 0x30 ∷ 0x30 ∷ 0x30 ∷ 0x0A ∷ []
 
 pub record SetupOutputs : Type 0 where
-  pub accepted : output (setup ++ newline ∷ []) ≡ free
+  pub accepted : output (setup ++ newline ∷ []) ≡ freeLine
   -- also where the end of the input ends the line
-  pub unended : output setup ≡ free
+  pub unended : output setup ≡ freeLine
   -- Whatever follows a refused setup line is not answered.
   pub page : output (page3 ++ newline ∷ setup ++ newline ∷ []) ≡ pageRefused
   pub tooShort : output (short ++ newline ∷ setup ++ newline ∷ []) ≡ lineRefused
@@ -51,7 +48,7 @@ pub record SetupOutputs : Type 0 where
 
 -- After setup each bad line has its answer: an empty one, one like a setup line, and an unended one.
 pub record BadLineOutputs : Type 0 where
-  pub each : output (setup ++ newline ∷ newline ∷ setup ++ newline ∷ 0x30 ∷ []) ≡ free ++ lineRefused ++ lineRefused ++ lineRefused
+  pub each : output (setup ++ newline ∷ newline ∷ setup ++ newline ∷ 0x30 ∷ []) ≡ freeLine ++ lineRefused ++ lineRefused ++ lineRefused
 
 -- ---- A session before its first line, and the refusals of a call
 
@@ -60,11 +57,11 @@ pub record FreshSession : Type 0 where
   pub noCards : fresh .bus .fitted ≡ 0
   pub noPages : fresh .bus .pages ≡ replicate 16 0
 
-abbrev pub senseless : Bus
-senseless = changed emptyBus Phase.owned 0 silent nobody
+abbrev pub ownerless : Bus
+ownerless = changed emptyBus Phase.owned 0 silent nobody
 
 pub record CallRefusals : Type 0 where
   pub full : (memory ports : List ℕ) → hasWrongBuffers memory ports ≡ false → feedRefusal emptyBus memory ports (replicate 3 0x30) 3 ≡ 0x00
-  pub tooFull : feedRefusal senseless [] [] (replicate 3 0x30) 4 ≡ 0xFF
-  pub noMemory : feedRefusal senseless [] [] (replicate 3 0x30) 3 ≡ 0x01
-  pub noSense : (memory ports : List ℕ) → hasWrongBuffers memory ports ≡ false → feedRefusal senseless memory ports (replicate 3 0x30) 3 ≡ 0x02
+  pub tooFull : feedRefusal ownerless [] [] (replicate 3 0x30) 4 ≡ 0xFF
+  pub noMemory : feedRefusal ownerless [] [] (replicate 3 0x30) 3 ≡ 0x01
+  pub noSense : (memory ports : List ℕ) → hasWrongBuffers memory ports ≡ false → feedRefusal ownerless memory ports (replicate 3 0x30) 3 ≡ 0x02

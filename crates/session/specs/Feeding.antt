@@ -1,9 +1,9 @@
--- A call that is given the text read so far: it answers lines that have ended, the setup line alone or as many events as there is room for, and
--- holds the rest (01, "The program and one whole run": lines, the end of the input, refused setup).
-use Prim.Native.Nat.{ℕ, _+_, _-_, _/_, min}
+-- A call that is given the text read so far: it answers the lines that have ended, as many as there is room for, and holds the rest (01, "The
+-- program and one whole run": lines, the end of the input, refused setup).
+use Prim.Native.Nat.{ℕ, _+_, _-_}
 use mathlib.Core.Bool.{Bool, cond, _&&_, not}
 use mathlib.Core.List.{List, _++_}
-use lib.Dec.{eqb, ltb}
+use lib.Dec.{eqb, leb, ltb}
 use lib.ListN.{length, take, drop, set, getD}
 use lib.Seq.{sets}
 use Rattle.bus.specs.Refusal as Refusal
@@ -11,35 +11,35 @@ use Rattle.bus.specs.Sense.{makesSense}
 use Rattle.bus.specs.declared.state.Bus.{Bus}
 use Rattle.judgement.specs.Refusals.{hasWrongBuffers}
 use Rattle.text.specs.Newlines.{newline}
-use Rattle.text.specs.AnswerLine.{answerLength}
-use Rattle.text.specs.Reading.{Taken, takenOff, heldOf}
-use Rattle.session.specs.World.{World, says, turns}
+use Rattle.text.specs.Reading.{Taken, firstTaken, takenOff, heldOf}
+use Rattle.session.specs.World.{World, mostSaid, answering}
 use Rattle.session.specs.declared.state.Stage.{Stage}
-use Rattle.session.specs.declared.state.Stage.the-variants.{Awaiting, Running, Ended}
 use Rattle.session.specs.declared.state.Session.{Session}
 use Rattle.session.specs.declared.calls.Fed.{Fed}
 use Rattle.session.specs.declared.calls.TakenLines.{TakenLines}
-use Rattle.session.specs.declared.calls.EventLine.{EventLine}
-
--- the lines that a call may answer, where there is room for so many answer lines: setup's alone, or events, or none once the run has ended
-unfoldable pub linesFor : Stage → ℕ → ℕ
-linesFor Awaiting room = min 1 room
-linesFor Running room = room
-linesFor Ended room = 0
 
 -- what a call with room for so many bytes takes off a text
 abbrev pub takes : ℕ → World → List ℕ → Taken World
-takes size w text = takenOff says turns (linesFor (w .session .stage) (size / answerLength)) w text
+takes size w text = takenOff answering size w text
+
+-- the line that a text begins with, where it has ended
+abbrev pub takesFirst : World → List ℕ → Taken World
+takesFirst w text = firstTaken answering w text
+
+-- in a place of so many bytes, so many of them written, another line would have room
+abbrev pub hasRoom : ℕ → ℕ → Bool
+hasRoom size written = leb mostSaid (size - written)
 
 abbrev pub worldOf : Session → List ℕ → List ℕ → World
 worldOf session memory ports = record { session = session; memory = memory; ports = ports }
 
--- what is told of the lines taken
+-- what is told: the session, the bytes that were used, and those that were written
+abbrev pub told : Stage → Bus → ℕ → ℕ → TakenLines
+told stage bus used written = record { session = record { stage = stage; bus = bus }; used = used; written = written }
+
+-- of the lines taken
 abbrev pub linesTaken : Taken World → TakenLines
 linesTaken t = record { session = t .state .session; used = t .used; written = length (t .said) }
-
-abbrev pub eventTaken : Taken World → EventLine
-eventTaken t = record { bus = t .state .session .bus; used = t .used }
 
 -- No text is filled further than it reaches; then a call is refused as an event would be, for its buffers and for a senseless state.
 abbrev pub feedRefusal : Bus → List ℕ → List ℕ → List ℕ → ℕ → ℕ

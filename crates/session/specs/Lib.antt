@@ -1,7 +1,6 @@
--- Read in this order: what a line is answered, and where it leads; a call that takes text in; the whole output; calls one after another.
+-- Read in this order: what a line is answered, and where it leads; a call that takes text in; the whole output.
 pub mod World
 pub mod Feeding
 pub mod Output
-pub mod Chunks
 pub mod Promises
 pub mod Examples

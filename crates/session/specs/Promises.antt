@@ -1,11 +1,11 @@
 -- What is promised of a run of the text program. The proof of each stands in proofs/ under its name in lower case, with hyphens.
 use Prim.Native.Nat.{ℕ, _+_, _-_, _*_, _<_, _≤_}
 use mathlib.Core.Path.{_≡_}
-use mathlib.Core.Logic.{_⊎_}
+use mathlib.Core.Logic.{_⊎_, _↔_}
 use mathlib.Core.Bool.{true, false, cond}
 use mathlib.Core.List.{List, [], _∷_, _++_}
 use lib.Dec.{eqb}
-use lib.ListN.{length, getD, take}
+use lib.ListN.{length, getD, take, replicate}
 use Rattle.bus.specs.Refusal as Refusal
 use Rattle.bus.specs.Sense.{makesSense}
 use Rattle.bus.specs.Setup.{emptyBus}
@@ -14,15 +14,15 @@ use Rattle.judgement.specs.Refusals.{hasWrongBuffers}
 use Rattle.events.specs.Machine.{Machine}
 use Rattle.events.specs.Answers.{bare}
 use Rattle.events.specs.Step.{refusalIn, after, answerTo}
-use Rattle.text.specs.Digits.{isDigits}
+use Rattle.text.specs.Digits.{numberOf, isDigits}
 use Rattle.text.specs.Newlines.{newline, hasNewline, textLines}
 use Rattle.text.specs.Frames.{eventDigits, eventIn, setupIn, longest}
 use Rattle.text.specs.AnswerLine.{answerLine, answerLength}
 use Rattle.text.specs.Reading.{heldOf}
-use Rattle.session.specs.World.{World, world, says, turns, setUpBy, freshWorld}
-use Rattle.session.specs.Feeding.{takes, feedRefusal, fedOf, textLeft, outLeft, worldLeft, finishedOf, finishedText, finishedOut, finishedWorld}
-use Rattle.session.specs.Output.{answers, output}
-use Rattle.session.specs.Chunks.{fedAll, wholeText, begun}
+use Rattle.text.specs.Chunks.{wholeText}
+use Rattle.session.specs.World.{World, world, says, turns, mostSaid, setUpBy, freshWorld}
+use Rattle.session.specs.Feeding.{takes, hasRoom, feedRefusal, fedOf, textLeft, outLeft, worldLeft, finishedOf, finishedText, finishedOut, finishedWorld}
+use Rattle.session.specs.Output.{answers, output, ranIn}
 use Rattle.session.specs.declared.state.Stage.the-variants.{Awaiting, Running, Ended}
 
 -- ---- What a line is answered, and where it leads
@@ -51,12 +51,41 @@ RefusedLineKeeps =
 abbrev pub setupNumber : List ℕ → ℕ
 setupNumber line = setUpBy (setupIn line) .answer
 
+-- where a setup line leads, in 01's words: a free bus with the cards that its first four digits write, and a page for each digit after them
+pub record SetUpAsWritten (line memory ports : List ℕ) (w : World) : Type 0 where
+  pub running : w .session .stage ≡ Running
+  pub fitted : w .session .bus .fitted ≡ numberOf (take 4 line)
+  pub pages : (n : ℕ) → n < 16 → getD (w .session .bus .pages) n 0 ≡ getD line (4 + n) 0 - 0x30
+  pub noMorePages : length (w .session .bus .pages) ≡ 16
+  pub phase : w .session .bus .phase ≡ 0
+  pub contenders : w .session .bus .contenders ≡ 0
+  pub driven : w .session .bus .driven ≡ replicate 16 0
+  pub granted : w .session .bus .granted ≡ 0xFF
+  pub memoryKept : w .memory ≡ memory
+  pub portsKept : w .ports ≡ ports
+
+-- A setup line of twenty digits, the last sixteen of them 0, 1 or 2, is answered 0000FF000000000000 and sets the bus up.
+abbrev pub AcceptedSetupLeads : Type 0
+AcceptedSetupLeads =
+    (bus : Bus) (memory ports line : List ℕ) → isDigits 20 line ≡ true → ((n : ℕ) → n < 16 → getD line (4 + n) 0 ≤ 0x32)
+    → (says (world Awaiting bus memory ports) line
+    ≡ 0x30 ∷ 0x30 ∷ 0x30 ∷ 0x30 ∷ 0x46 ∷ 0x46 ∷ 0x30 ∷ 0x30 ∷ 0x30 ∷ 0x30 ∷ 0x30 ∷ 0x30 ∷ 0x30 ∷ 0x30 ∷ 0x30 ∷ 0x30 ∷ 0x30 ∷ 0x30 ∷ 0x0A ∷ [])
+    × SetUpAsWritten line memory ports (turns (world Awaiting bus memory ports) line)
+
 -- A refused setup line is answered by its number and zeros, and nothing after it; it leaves an empty chassis, and memory and ports alone.
 abbrev pub RefusedSetupEnds : Type 0
 RefusedSetupEnds =
     (bus : Bus) (memory ports line : List ℕ) (lines : List (List ℕ)) → (setupNumber line ≡ Refusal.accepted → ⊥)
     → (answers (world Awaiting bus memory ports) (line ∷ lines) ≡ answerLine (bare (setupNumber line)))
     × (turns (world Awaiting bus memory ports) line ≡ world Ended emptyBus memory ports)
+
+-- Once a run has ended nothing is said, and no line changes anything.
+abbrev pub EndedStays : Type 0
+EndedStays = (w : World) (line : List ℕ) → w .session .stage ≡ Ended → (says w line ≡ []) × (turns w line ≡ w)
+
+-- No line is answered more bytes than the most.
+abbrev pub SaysAtMost : Type 0
+SaysAtMost = (w : World) (line : List ℕ) → length (says w line) ≤ mostSaid
 
 -- The rest of a line beyond one byte more than the longest right line has changes nothing.
 abbrev pub CutChangesNothing : Type 0
@@ -96,7 +125,7 @@ StartsAtZero = (k : ℕ) → (getD (freshWorld .memory) k 0 ≡ 0) × (getD (fre
 abbrev pub AnyChunks : Type 0
 AnyChunks =
     (calls : List (ℕ × List ℕ))
-    → fedAll begun calls .said ++ answers (fedAll begun calls .world) (textLines (fedAll begun calls .held)) ≡ output (wholeText calls)
+    → ranIn calls .said ++ answers (ranIn calls .state) (textLines (ranIn calls .held)) ≡ output (wholeText calls)
 
 -- A call that finds a newline in a session that goes on, and room for an answer, answers a line: so nothing complete stays held.
 abbrev pub CallsGoOn : Type 0
@@ -139,12 +168,22 @@ NothingToEnd =
     × ((finishedWorld w text held out ≡ worldLeft w text held out)
     × ((finishedText w text held out ≡ textLeft w text held out) × (finishedOut w text held out ≡ outLeft w text held out)))
 
--- After a feed there is room to read more, where the run goes on, the text is longer than what is held of an unended line, and an answer had room.
+-- After a feed there is room to read more, where the text is longer than what is held of an unended line, and an answer had room.
 abbrev pub RoomToRead : Type 0
 RoomToRead =
     (w : World) (text : List ℕ) (filled : ℕ) (out : List ℕ) → feedRefusal (w .session .bus) (w .memory) (w .ports) text filled ≡ Refusal.accepted
-    → (w .session .stage ≡ Awaiting) ⊎ (w .session .stage ≡ Running) → 1 + longest < length text → answerLength ≤ length out
-    → fedOf w text filled out .held < length text
+    → 1 + longest < length text → answerLength ≤ length out → fedOf w text filled out .held < length text
+
+-- Another answer has room exactly where its bytes are left.
+abbrev pub RoomAsked : Type 0
+RoomAsked = (size written : ℕ) → (hasRoom size written ≡ true) ↔ (written + answerLength ≤ size)
+
+-- A feed that left room for another answer holds no line that has ended: only then is there reason to read more.
+abbrev pub NothingCompleteHeld : Type 0
+NothingCompleteHeld =
+    (w : World) (text : List ℕ) (filled : ℕ) (out : List ℕ) → feedRefusal (w .session .bus) (w .memory) (w .ports) text filled ≡ Refusal.accepted
+    → hasRoom (length out) (fedOf w text filled out .written) ≡ true
+    → hasNewline (take (fedOf w text filled out .held) (textLeft w text filled out)) ≡ false
 
 -- At the end of the input an accepted finish writes what the held line is answered, where it holds no newline and has room for one.
 abbrev pub FinishedInPlace : Type 0
@@ -157,9 +196,9 @@ FinishedInPlace =
 -- room for a newline, with room for an answer.
 abbrev pub WholeRun : Type 0
 WholeRun =
-    (calls : List (ℕ × List ℕ)) (text out : List ℕ) → take (length (fedAll begun calls .held)) text ≡ fedAll begun calls .held
-    → length (fedAll begun calls .held) < length text → hasNewline (fedAll begun calls .held) ≡ false → answerLength ≤ length out
-    → fedAll begun calls .said
-    ++ take (finishedOf (fedAll begun calls .world) text (length (fedAll begun calls .held)) out .written)
-    (finishedOut (fedAll begun calls .world) text (length (fedAll begun calls .held)) out)
+    (calls : List (ℕ × List ℕ)) (text out : List ℕ) → take (length (ranIn calls .held)) text ≡ ranIn calls .held
+    → length (ranIn calls .held) < length text → hasNewline (ranIn calls .held) ≡ false → answerLength ≤ length out
+    → ranIn calls .said
+    ++ take (finishedOf (ranIn calls .state) text (length (ranIn calls .held)) out .written)
+    (finishedOut (ranIn calls .state) text (length (ranIn calls .held)) out)
     ≡ output (wholeText calls)

@@ -16,7 +16,8 @@ use Rattle.events.specs.Step.{after, answerTo}
 use Rattle.events.specs.declared.answers.Answer.{Answer}
 use Rattle.text.specs.Digits.{isDigits}
 use Rattle.text.specs.Frames.{eventDigits, eventIn, setupIn}
-use Rattle.text.specs.AnswerLine.{answerLine}
+use Rattle.text.specs.AnswerLine.{answerLine, answerLength}
+use Rattle.text.specs.Reading.{Reader}
 use Rattle.text.specs.declared.frames.SetupLine.{SetupLine}
 use Rattle.session.specs.declared.state.Stage.{Stage}
 use Rattle.session.specs.declared.state.Stage.the-variants.{Awaiting, Running, Ended}
@@ -37,12 +38,12 @@ machineOf w = machine (w .session .bus) (w .memory) (w .ports)
 -- ---- The setup line
 
 -- a refused setup leaves an empty chassis
-abbrev pub refusedAs : ℕ → SetupAnswer
-refusedAs refusal = record { answer = refusal; bus = emptyBus }
+abbrev pub refusedSetup : ℕ → SetupAnswer
+refusedSetup refusal = record { answer = refusal; bus = emptyBus }
 
 -- a bad line is refused as such, and otherwise setup decides
 abbrev pub setUpBy : SetupLine → SetupAnswer
-setUpBy line = cond (eqb (line .refusal) Refusal.accepted) (setupOf (line .fitted) (line .pages)) (refusedAs (line .refusal))
+setUpBy line = cond (eqb (line .refusal) Refusal.accepted) (setupOf (line .chassis)) (refusedSetup (line .refusal))
 
 abbrev pub setupAnswer : SetupAnswer → Answer
 setupAnswer given =
@@ -80,6 +81,14 @@ says w line = saysBy (w .session .stage) w line
 -- what a line leads to
 abbrev pub turns : World → List ℕ → World
 turns w line = turnsBy (w .session .stage) w line
+
+-- the most bytes that are answered to a line
+abbrev pub mostSaid : ℕ
+mostSaid = answerLength
+
+-- the program as a reader of lines
+abbrev pub answering : Reader World
+answering = record { says = says; turns = turns; most = mostSaid }
 
 -- before the first line: an empty chassis, memory and ports at zero
 abbrev pub fresh : Session

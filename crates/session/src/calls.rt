@@ -1,6 +1,5 @@
 // What is told of lines taken off a text.
 use crate::state::Session;
-use bus::Bus;
 
 // The session after a call, how many bytes of text are held at its front, and how many bytes of answers were written.
 pub struct Fed {
@@ -16,10 +15,4 @@ pub struct TakenLines {
     pub session: Session,
     pub used: usize,
     pub written: usize,
-}
-
-// The bus after a line, and the bytes that it had; none where no line has ended.
-pub struct EventLine {
-    pub bus: Bus,
-    pub used: usize,
 }

@@ -1,8 +1,5 @@
 // How far a run is.
-ghost use mathlib.Core.Path.{_≡_};
-ghost use Rattle.session.specs.World.{fresh};
 use bus::Bus;
-use sense::setup;
 
 pub enum Stage {
     // The setup line is still to come.
@@ -16,17 +13,4 @@ pub enum Stage {
 pub struct Session {
     pub stage: Stage,
     pub bus: Bus,
-}
-
-impl Session {
-    pub fn fresh() -> Session
-        ensures { λ r. ⌜ r ≡ fresh ⌝ }
-    {
-        let empty = setup(0, [0; 16]);
-        let bus = empty.bus;
-        Session {
-            stage: Stage::Awaiting,
-            bus: bus,
-        }
-    }
 }

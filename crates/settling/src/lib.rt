@@ -2,7 +2,7 @@
 ghost use mathlib.Core.Path.{_≡_};
 ghost use mathlib.Core.Bool.{cond};
 ghost use Rattle.bus.specs.Refusal.{unsettled};
-ghost use Rattle.bus.specs.Settle.{leadingLooks, listRefusal, neverSettles, refusedAs, acceptedAfter, settleOf};
+ghost use Rattle.bus.specs.Settle.{leadingLooks, listRefusal, neverSettles, settleRefused, acceptedAfter, settleOf};
 use bus::Bus;
 use bus::Settlement;
 use bus::numbers::*;
@@ -31,17 +31,25 @@ pub fn settle(bus: Bus, cards: &[u8]) -> Settlement
 fn list_refusal(bus: Bus, cards: &[u8]) -> u8
     ensures { λ r. ⌜ r ≡ listRefusal bus (now (cards .entry)) ⌝ }
 {
-    let idle = first(NOT_ITS_TURN, !all_in(bus.contenders, cards), ACCEPTED);
-    let elsewhere = first(WRONG_PHASE, !(bus.phase == ARBITRATION), idle);
-    let unfitted = first(NOT_FITTED, !all_in(bus.fitted, cards), elsewhere);
-    let malformed = first(MALFORMED, !all_at_most(15, cards), unfitted);
-    first(SENSELESS, !makes_sense(bus), malformed)
+    if !makes_sense(bus) {
+        SENSELESS
+    } else if !all_at_most(15, cards) {
+        MALFORMED
+    } else if !all_in(bus.fitted, cards) {
+        NOT_FITTED
+    } else if !(bus.phase == ARBITRATION) {
+        WRONG_PHASE
+    } else if !all_in(bus.contenders, cards) {
+        NOT_ITS_TURN
+    } else {
+        ACCEPTED
+    }
 }
 
 // The looks themselves.
 fn settle_by(start: Bus, cards: &[u8]) -> Settlement
     ensures { λ r. ⌜ r ≡ cond (neverSettles start (now (cards .entry)))
-        (refusedAs unsettled start)
+        (settleRefused unsettled start)
         (acceptedAfter (leadingLooks start (now (cards .entry))) start (now (cards .entry))) ⌝ }
 {
     let mut bus = start;
@@ -63,11 +71,4 @@ fn settle_by(start: Bus, cards: &[u8]) -> Settlement
         bus: bus,
         looks: n,
     }
-}
-
-// The number where the reason applies, and else what the later reasons give.
-fn first(number: u8, applies: bool, later: u8) -> u8
-    ensures { λ r. ⌜ r ≡ cond applies number later ⌝ }
-{
-    if applies { number } else { later }
 }

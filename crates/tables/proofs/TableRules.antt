@@ -1,5 +1,5 @@
 -- The tables of the code as lists, with the rule of each computed over all of its entries, and beyond them over all that a byte can say.
-use Prim.Native.Nat.{ℕ, _+_, _<_, _≤_}
+use Prim.Native.Nat.{ℕ, suc, _+_, _<_, _≤_}
 use mathlib.Core.Path.{_≡_, refl, sym}
 use mathlib.Core.Bool.{Bool, true, false, cond}
 use mathlib.Core.List.{List, [], _∷_}
@@ -9,10 +9,12 @@ use lib.ListN.{length, getD, List·getD-eq-default}
 use Rattle.words.specs.Below.{allBelow}
 use Rattle.words.specs.Among.{isAmong, beside}
 use Rattle.words.proofs.BelowLaws.{same-below, same-in-rows, none-beyond}
+use Rattle.phases.specs.Phase as Phase
+use Rattle.phases.specs.Kind as Kind
 use Rattle.phases.specs.Signal.{pHLDA, isOn, signalsIn}
 use Rattle.phases.specs.Driver.{driversIn, driverOf}
 use Rattle.phases.specs.Status.{statusOf}
-use Rattle.phases.specs.Control.{allowsCycles, isReading, isWriting, strobeOf}
+use Rattle.phases.specs.Control.{isReading, isWriting, strobeOf}
 
 abbrev pub drivers : List (List ℕ)
 drivers =
@@ -24,63 +26,73 @@ drivers =
     ∷ (0 ∷ 0 ∷ 0 ∷ 3 ∷ [])
     ∷ []
 
-pub driver-entry : (phase group : ℕ) → phase < 6 → group < 4 → getD (getD drivers phase []) group 0 ≡ driverOf phase group
+pub driver-entry : (phase group : ℕ) → phase ≤ Phase.last → group < 4 → getD (getD drivers phase []) group 0 ≡ driverOf phase group
 unfolding allBelow beside driversIn
-driver-entry = same-in-rows (λ p g. getD (getD drivers p []) g 0) driverOf 6 4 refl
+driver-entry phase group h g =
+    same-in-rows (λ p g. getD (getD drivers p []) g 0) driverOf (suc Phase.last) 4 refl phase group (omega (arith, h)) g
 
--- a row has four entries, and there are six rows
-pub driver-no-group : (phase group : ℕ) → phase < 6 → 4 ≤ group → 0 ≡ driverOf phase group
+-- a row has four entries, and there is a row for each phase
+pub driver-no-group : (phase group : ℕ) → phase ≤ Phase.last → 4 ≤ group → 0 ≡ driverOf phase group
 unfolding allBelow beside driversIn
-driver-no-group phase group h g = sym (List·getD-eq-default (driversIn phase) 0 (omega (arith, same-below (λ p. length (driversIn p)) (λ p. 4) 6 refl phase h)))
+driver-no-group phase group h g = sym (List·getD-eq-default (driversIn phase) 0 (omega (arith, four)))
+  where
+    four : length (driversIn phase) ≡ 4
+    four = same-below (λ p. length (driversIn p)) (λ p. 4) (suc Phase.last) refl phase (omega (arith, h))
 
-pub driver-no-phase : (phase group : ℕ) → 6 ≤ phase → phase < 256 → 0 ≡ driverOf phase group
+pub driver-no-phase : (phase group : ℕ) → Phase.last < phase → phase < 256 → 0 ≡ driverOf phase group
 unfolding allBelow beside driversIn
-driver-no-phase phase group h l = sym (List·getD-eq-default (driversIn phase) 0 (omega (arith, none-beyond (λ p. length (driversIn p)) 6 250 refl phase h l)))
+driver-no-phase phase group h l = sym (List·getD-eq-default (driversIn phase) 0 (omega (arith, none)))
+  where
+    none : 0 ≡ length (driversIn phase)
+    none = none-beyond (λ p. length (driversIn p)) (suc Phase.last) 256 refl phase h (omega (arith, l))
 
 abbrev pub signals : List ℕ
 signals = 0x00 ∷ 0x01 ∷ 0x03 ∷ 0x1F ∷ 0x3F ∷ 0x1E ∷ []
 
-pub signals-entry : (phase : ℕ) → phase < 6 → getD signals phase 0 ≡ signalsIn phase
+pub signals-entry : (phase : ℕ) → phase ≤ Phase.last → getD signals phase 0 ≡ signalsIn phase
 unfolding allBelow beside signalsIn
-signals-entry = same-below (λ k. getD signals k 0) signalsIn 6 refl
+signals-entry phase h = same-below (λ k. getD signals k 0) signalsIn (suc Phase.last) refl phase (omega (arith, h))
 
-pub signals-beyond : (phase : ℕ) → 6 ≤ phase → phase < 256 → 0 ≡ signalsIn phase
+pub signals-beyond : (phase : ℕ) → Phase.last < phase → phase < 256 → 0 ≡ signalsIn phase
 unfolding allBelow beside signalsIn
-signals-beyond = none-beyond signalsIn 6 250 refl
+signals-beyond phase h l = none-beyond signalsIn (suc Phase.last) 256 refl phase h (omega (arith, l))
 
 abbrev pub status : List ℕ
 status =
-    0 ∷ 0 ∷ 0 ∷ 0 ∷ 0 ∷ 0 ∷ 0x01 ∷ 0x03 ∷ 0x10 ∷ 0x01 ∷ 0x10 ∷ 0x04 ∷ 0x18 ∷ 0 ∷ 0 ∷ 0 ∷ []
+    0 ∷ 0 ∷ 0 ∷ 0 ∷ 0 ∷ 0 ∷ 0x01 ∷ 0x03 ∷ 0x10 ∷ 0x01 ∷ 0x10 ∷ 0x04 ∷ 0x18 ∷ []
 
-pub status-entry : (kind : ℕ) → kind < 16 → getD status kind 0 ≡ statusOf kind
+pub status-entry : (kind : ℕ) → kind ≤ Kind.output → getD status kind 0 ≡ statusOf kind
 unfolding allBelow beside statusOf
-status-entry = same-below (λ k. getD status k 0) statusOf 16 refl
+status-entry kind h = same-below (λ k. getD status k 0) statusOf (suc Kind.output) refl kind (omega (arith, h))
 
-pub status-beyond : (kind : ℕ) → 16 ≤ kind → kind < 256 → 0 ≡ statusOf kind
+pub status-beyond : (kind : ℕ) → Kind.output < kind → kind < 256 → 0 ≡ statusOf kind
 unfolding allBelow beside statusOf
-status-beyond = none-beyond statusOf 16 240 refl
+status-beyond kind h l = none-beyond statusOf (suc Kind.output) 256 refl kind h (omega (arith, l))
 
 abbrev pub strobes : List ℕ
-strobes = 0 ∷ 0 ∷ 0 ∷ 0 ∷ 0 ∷ 0 ∷ 0x08 ∷ 0x08 ∷ 0x10 ∷ 0x08 ∷ 0x10 ∷ 0x08 ∷ 0x10 ∷ 0 ∷ 0 ∷ 0 ∷ []
+strobes = 0 ∷ 0 ∷ 0 ∷ 0 ∷ 0 ∷ 0 ∷ 0x08 ∷ 0x08 ∷ 0x10 ∷ 0x08 ∷ 0x10 ∷ 0x08 ∷ 0x10 ∷ []
 
-pub strobe-entry : (kind : ℕ) → kind < 16 → getD strobes kind 0 ≡ strobeOf kind
+pub strobe-entry : (kind : ℕ) → kind ≤ Kind.output → getD strobes kind 0 ≡ strobeOf kind
 unfolding allBelow isAmong strobeOf
-strobe-entry = same-below (λ k. getD strobes k 0) strobeOf 16 refl
+strobe-entry kind h = same-below (λ k. getD strobes k 0) strobeOf (suc Kind.output) refl kind (omega (arith, h))
 
-pub strobe-beyond : (kind : ℕ) → 16 ≤ kind → kind < 256 → 0 ≡ strobeOf kind
+pub strobe-beyond : (kind : ℕ) → Kind.output < kind → kind < 256 → 0 ≡ strobeOf kind
 unfolding allBelow isAmong strobeOf
-strobe-beyond = none-beyond strobeOf 16 240 refl
+strobe-beyond kind h l = none-beyond strobeOf (suc Kind.output) 256 refl kind h (omega (arith, l))
 
 -- a strobe and pHLDA together fit a byte
-pub control-fits : (phase kind : ℕ) → cond (allowsCycles phase) (strobeOf kind) 0 + cond (isOn pHLDA (signalsIn phase)) pHLDA 0 < 256
+pub control-fits : (phase kind : ℕ) → cond (Phase.hasCycles phase) (strobeOf kind) 0 + cond (isOn pHLDA (signalsIn phase)) pHLDA 0 < 256
 unfolding strobeOf
 control-fits phase kind =
     omega (
       arith,
-      at-most (allowsCycles phase) (strobeOf kind) 0 (at-most (isReading kind) 8 _ (lit≤ tt) (at-most (isWriting kind) 16 0 (lit≤ tt) (lit≤ tt))) (lit≤ tt),
+      at-most (Phase.hasCycles phase) (strobeOf kind) 0 strobe-most (lit≤ tt),
       at-most (isOn pHLDA (signalsIn phase)) pHLDA 0 (lit≤ tt) (lit≤ tt),
     )
   where
     at-most : (b : Bool) (x y : ℕ) → x ≤ 16 → y ≤ 16 → cond b x y ≤ 16
     at-most true x y hx hy = hx
     at-most false x y hx hy = hy
+
+    strobe-most : strobeOf kind ≤ 16
+    strobe-most = at-most (isReading kind) 8 _ (lit≤ tt) (at-most (isWriting kind) 16 0 (lit≤ tt) (lit≤ tt))

@@ -1,14 +1,20 @@
 // What stands on the lines by phase and by kind of cycle, from constant tables: drivers, signals, status and control outputs.
 ghost use mathlib.Core.Path.{_≡_};
 ghost use mathlib.Core.Bool.{cond};
+ghost use Rattle.phases.specs.Phase.{hasCycles};
 ghost use Rattle.phases.specs.Signal.{pHLDA, isOn, signalsIn};
 ghost use Rattle.phases.specs.Driver.{driverOf};
 ghost use Rattle.phases.specs.Status.{statusOf};
-ghost use Rattle.phases.specs.Control.{allowsCycles, strobeOf, controlIn, isMWRT};
+ghost use Rattle.phases.specs.Control.{strobeOf, controlIn, isMWRT};
 use phases::numbers::*;
 
+// How many entries a table has that goes by phase, and one that goes by kind, up to the last cycle.
+const PHASES: usize = LAST_PHASE as usize + 1;
+
+const KINDS: usize = OUTPUT as usize + 1;
+
 // Who drives the address, status, data-out and control lines: a row for each phase.
-const DRIVERS: [[u8; 4]; 6] = [
+const DRIVERS: [[u8; 4]; PHASES] = [
     [PERMANENT, PERMANENT, PERMANENT, PERMANENT],
     [PERMANENT, PERMANENT, PERMANENT, PERMANENT],
     [PERMANENT, PERMANENT, PERMANENT, PERMANENT],
@@ -21,7 +27,7 @@ const DRIVERS: [[u8; 4]; 6] = [
 const DISABLED: u8 = ADSB + SDSB + DODSB;
 
 // The true signals: an entry for each phase.
-const SIGNALS: [u8; 6] = [
+const SIGNALS: [u8; PHASES] = [
     0,
     HOLD,
     HOLD + P_HLDA,
@@ -30,8 +36,8 @@ const SIGNALS: [u8; 6] = [
     P_HLDA + DISABLED,
 ];
 
-// The status byte: an entry for each kind of event, from 00 to 0F.
-const STATUS: [u8; 16] = [
+// The status byte: an entry for each kind of event up to the last cycle, and one for 00.
+const STATUS: [u8; KINDS] = [
     0,
     0,
     0,
@@ -45,13 +51,10 @@ const STATUS: [u8; 16] = [
     S_WO,
     S_INP,
     S_OUT + S_WO,
-    0,
-    0,
-    0,
 ];
 
 // The data strobe, in the same way.
-const STROBES: [u8; 16] = [
+const STROBES: [u8; KINDS] = [
     0,
     0,
     0,
@@ -65,16 +68,13 @@ const STROBES: [u8; 16] = [
     P_WR,
     P_DBIN,
     P_WR,
-    0,
-    0,
-    0,
 ];
 
 // Who drives a group of lines in a phase; nobody, where there is no such phase or group.
 pub fn driver(phase: u8, group: u8) -> u8
     ensures { λ r. ⌜ r ≡ driverOf phase group ⌝ }
 {
-    if phase < 6 {
+    if phase <= LAST_PHASE {
         if group < 4 {
             return DRIVERS[phase as usize][group as usize];
         }
@@ -86,7 +86,7 @@ pub fn driver(phase: u8, group: u8) -> u8
 pub fn signals(phase: u8) -> u8
     ensures { λ r. ⌜ r ≡ signalsIn phase ⌝ }
 {
-    if phase < 6 {
+    if phase <= LAST_PHASE {
         SIGNALS[phase as usize]
     } else {
         0
@@ -97,13 +97,21 @@ pub fn signals(phase: u8) -> u8
 pub fn status(kind: u8) -> u8
     ensures { λ r. ⌜ r ≡ statusOf kind ⌝ }
 {
-    if kind < 16 { STATUS[kind as usize] } else { 0 }
+    if kind <= OUTPUT {
+        STATUS[kind as usize]
+    } else {
+        0
+    }
 }
 
 fn strobe(kind: u8) -> u8
     ensures { λ r. ⌜ r ≡ strobeOf kind ⌝ }
 {
-    if kind < 16 { STROBES[kind as usize] } else { 0 }
+    if kind <= OUTPUT {
+        STROBES[kind as usize]
+    } else {
+        0
+    }
 }
 
 // MWRT, from the control outputs and the status lines.
@@ -121,7 +129,7 @@ pub fn control(phase: u8, kind: u8) -> u8
 }
 
 fn strobe_in(phase: u8, kind: u8) -> u8
-    ensures { λ r. ⌜ r ≡ cond (allowsCycles phase) (strobeOf kind) 0 ⌝ }
+    ensures { λ r. ⌜ r ≡ cond (hasCycles phase) (strobeOf kind) 0 ⌝ }
 {
     if (phase == FREE) | (phase == ARBITRATION) | (phase == OWNED) {
         strobe(kind)

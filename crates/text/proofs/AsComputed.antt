@@ -3,8 +3,9 @@ use mathlib.Core.Path.{refl}
 use Rattle.words.specs.Below.{allBelow}
 use Rattle.words.specs.Among.{everyListed}
 use Rattle.text.specs.Digits.{numberAfter, digitsOf}
-use Rattle.text.specs.Newlines.{hasNewline, firstLine, linesAfter, lastLine}
-use Rattle.text.specs.Examples.{DigitsAndNeighbours, EventLines, SetupLines, AnswerInPlace, LinesOfTexts, Held}
+use Rattle.text.specs.Newlines.{hasNewline, firstLine, restOf, linesAfter, lastLine}
+use Rattle.text.specs.Reading.{takenWithin}
+use Rattle.text.specs.Examples.{DigitsAndNeighbours, EventLines, SetupLines, AnswerInPlace, LinesOfTexts, Held, LinesWithRoom}
 
 pub digits-and-neighbours : DigitsAndNeighbours
 digits-and-neighbours = record {
@@ -40,7 +41,7 @@ setup-lines = record { right = refl; anEvent = refl; tooLong = refl }
 
 pub answer-in-place : AnswerInPlace
 unfolding digitsOf
-answer-in-place = record { line = refl; room = refl; behind = refl; tooShort = refl }
+answer-in-place = record { line = refl; long = refl; room = refl; whole = refl; none = refl; behind = refl; tooShort = refl }
 
 pub lines-of-texts : LinesOfTexts
 unfolding linesAfter lastLine
@@ -48,4 +49,8 @@ lines-of-texts = record { nothing = refl; newlineAlone = refl; ended = refl; une
 
 pub held : Held
 unfolding hasNewline
-held = record { twenty = refl; more = refl; lines = refl }
+held = record { long = refl; right = refl; more = refl; lines = refl }
+
+pub lines-with-room : LinesWithRoom
+unfolding hasNewline firstLine restOf takenWithin
+lines-with-room = record { all = refl; two = refl; none = refl; first = refl }

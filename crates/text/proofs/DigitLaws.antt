@@ -3,19 +3,21 @@ use mathlib.Core.Path.{_≡_, refl, sym, ap, _∙_}
 use mathlib.Core.Logic.{_⊎_, inl, inr, ⊎-elim}
 use mathlib.Core.Bool.{Bool, true, false, cond, not, _&&_, _||_, false≢true}
 use mathlib.Core.List.{List, [], _∷_, _++_, map, map-append}
-use Prim.Native.Nat.{ℕ, suc, _+_, _*_, _-_, _/_, _%_, _^_, _<_, _≤_}
+use Prim.Native.Nat.{ℕ, zero, suc, _+_, _*_, _-_, _/_, _%_, _^_, _<_, _≤_}
 use native.Mathlib.Omega.{arith}
 use lib.Dec.{eqb, leb, ltb}
-use lib.ListN.{length, getD, take, drop, set, length-drop}
+use lib.ListN.{length, getD, take, drop, set, length-append, length-drop}
 use lib.Seq.{drop-cons, getD-drop, take-suc, take-suc-set, sets}
 use borrow.Author.Tests.{ltb-true, ltb-false, leb-true, leb-false, le-leb, lt-leb}
 use Rattle.words.specs.Below.{allBelow}
 use Rattle.words.specs.Among.{everyListed}
+use Rattle.words.specs.Parts.{Sized}
 use Rattle.words.proofs.BelowLaws.{same-tests-below}
 use Rattle.words.proofs.TestLaws.{true-or-false, either-of, neither-of, then-pick, else-pick, both-of}
 use Rattle.words.proofs.ListLaws.{every-at}
-use Rattle.text.specs.Digits.{isDigit, valueOf, digitOf, numberAfter, numberOf, digitsOf}
-use Rattle.text.specs.Frames.{part}
+use Rattle.words.proofs.PartLaws.{sets-append}
+use Rattle.text.specs.Digits.{isDigit, valueOf, digitOf, numberAfter, numberOf, digitsOf, inDigits}
+use Rattle.text.specs.Frames.{digitsFrom}
 
 -- ---- One digit
 
@@ -53,45 +55,45 @@ value-small b e =
 
 -- one more digit of a part
 one-digit : (n at next count : ℕ) (line : List ℕ) → suc at ≡ next → at < length line
-    → numberAfter n (part at (suc count) line) ≡ numberAfter (n * 16 + valueOf (getD line at 0)) (part next count line)
+    → numberAfter n (digitsFrom at (suc count) line) ≡ numberAfter (n * 16 + valueOf (getD line at 0)) (digitsFrom next count line)
 unfolding numberAfter
 one-digit n at next count line e h =
     ap (λ (l : List ℕ). numberAfter n (take (suc count) l)) (drop-cons line at 0 h)
-    ∙ ap (λ (k : ℕ). numberAfter (n * 16 + valueOf (getD line at 0)) (part k count line)) e
+    ∙ ap (λ (k : ℕ). numberAfter (n * 16 + valueOf (getD line at 0)) (digitsFrom k count line)) e
 
-no-digit : (n at : ℕ) (line : List ℕ) → numberAfter n (part at 0 line) ≡ n
+no-digit : (n at : ℕ) (line : List ℕ) → numberAfter n (digitsFrom at 0 line) ≡ n
 unfolding numberAfter
 no-digit n at line = refl
 
 -- two more
 pair-of : (n at count : ℕ) (line : List ℕ) → at + 2 ≤ length line
-    → numberAfter n (part at (suc (suc count)) line)
-    ≡ numberAfter ((n * 16 + valueOf (getD line at 0)) * 16 + valueOf (getD line (at + 1) 0)) (part (at + 2) count line)
+    → numberAfter n (digitsFrom at (suc (suc count)) line)
+    ≡ numberAfter ((n * 16 + valueOf (getD line at 0)) * 16 + valueOf (getD line (at + 1) 0)) (digitsFrom (at + 2) count line)
 pair-of n at count line h =
     one-digit n at (at + 1) (suc count) line (omega arith) (omega (arith, h))
     ∙ one-digit _ (at + 1) (at + 2) count line (omega arith) (omega (arith, h))
 
 pub two-digits : (at : ℕ) (line : List ℕ) → at + 2 ≤ length line
-    → numberOf (part at 2 line) ≡ valueOf (getD line at 0) * 16 + valueOf (getD line (at + 1) 0)
+    → numberOf (digitsFrom at 2 line) ≡ valueOf (getD line at 0) * 16 + valueOf (getD line (at + 1) 0)
 two-digits at line h = pair-of 0 at 0 line h ∙ no-digit _ (at + 2) line ∙ omega arith
 
 two-more : (n at count : ℕ) (line : List ℕ) → at + 2 ≤ length line
-    → numberAfter n (part at (suc (suc count)) line) ≡ numberAfter (n * 0x100 + numberOf (part at 2 line)) (part (at + 2) count line)
+    → numberAfter n (digitsFrom at (suc (suc count)) line) ≡ numberAfter (n * 0x100 + numberOf (digitsFrom at 2 line)) (digitsFrom (at + 2) count line)
 two-more n at count line h =
     pair-of n at count line h
-    ∙ ap (λ (k : ℕ). numberAfter k (part (at + 2) count line)) (omega (arith, two-digits at line h))
+    ∙ ap (λ (k : ℕ). numberAfter k (digitsFrom (at + 2) count line)) (omega (arith, two-digits at line h))
 
 four-more : (n at : ℕ) (line : List ℕ) → at + 4 ≤ length line
-    → numberAfter n (part at 4 line) ≡ (n * 0x100 + numberOf (part at 2 line)) * 0x100 + numberOf (part (at + 2) 2 line)
+    → numberAfter n (digitsFrom at 4 line) ≡ (n * 0x100 + numberOf (digitsFrom at 2 line)) * 0x100 + numberOf (digitsFrom (at + 2) 2 line)
 four-more n at line h =
     two-more n at 2 line (omega (arith, h)) ∙ two-more _ (at + 2) 0 line (omega (arith, h)) ∙ no-digit _ (at + 2 + 2) line
 
 pub four-digits : (at : ℕ) (line : List ℕ) → at + 4 ≤ length line
-    → numberOf (part at 4 line) ≡ numberOf (part at 2 line) * 0x100 + numberOf (part (at + 2) 2 line)
+    → numberOf (digitsFrom at 4 line) ≡ numberOf (digitsFrom at 2 line) * 0x100 + numberOf (digitsFrom (at + 2) 2 line)
 four-digits at line h = four-more 0 at line h ∙ omega arith
 
 pub six-digits : (at : ℕ) (line : List ℕ) → at + 6 ≤ length line
-    → numberOf (part at 6 line) ≡ numberOf (part at 2 line) * 0x10000 + numberOf (part (at + 2) 4 line)
+    → numberOf (digitsFrom at 6 line) ≡ numberOf (digitsFrom at 2 line) * 0x10000 + numberOf (digitsFrom (at + 2) 4 line)
 six-digits at line h =
     two-more 0 at 4 line (omega (arith, h))
     ∙ four-more _ (at + 2) line (omega (arith, h))
@@ -102,7 +104,7 @@ pub digits-two : (n : ℕ) → digitsOf 2 n ≡ digitOf (n / 16 % 16) ∷ digitO
 unfolding digitsOf
 digits-two n = refl
 
-pub small-two : (at : ℕ) (line : List ℕ) → at + 2 ≤ length line → everyListed isDigit line ≡ true → numberOf (part at 2 line) < 256
+pub small-two : (at : ℕ) (line : List ℕ) → at + 2 ≤ length line → everyListed isDigit line ≡ true → numberOf (digitsFrom at 2 line) < 256
 small-two at line h e =
     omega (
       arith,
@@ -110,6 +112,16 @@ small-two at line h e =
       value-small (getD line at 0) (every-at isDigit line e at (omega (arith, h))),
       value-small (getD line (at + 1) 0) (every-at isDigit line e (at + 1) (omega (arith, h))),
     )
+
+pub digits-long : (count n : ℕ) → length (digitsOf count n) ≡ count
+unfolding digitsOf
+digits-long zero n = refl
+digits-long (suc count) n = length-append (digitsOf count (n / 16)) (digitOf (n % 16) ∷ []) ∙ omega (arith, digits-long count (n / 16))
+
+-- so fields of digits have as many as they say
+pub digits-sized : {A : Type 0} (fields : List (ℕ × (A → ℕ))) (a : A) → Sized (inDigits fields) a
+digits-sized [] a = tt
+digits-sized (field ∷ fields) a = (digits-long (field .0) (field .1 a), digits-sized fields a)
 
 -- where a byte is no digit, not all are
 pub not-all : (line : List ℕ) (i : ℕ) → i < length line → isDigit (getD line i 0) ≡ false → false ≡ everyListed isDigit line
@@ -124,7 +136,7 @@ two-put place at b high low h l =
     ap (λ (k : ℕ). set (set place at high) k low) one ∙ rw (h, l) refl
 
 -- four digits are two and two
-pub halves-put : (datum : ℕ) → digitsOf 2 (datum / 256) ++ digitsOf 2 (datum % 256) ≡ digitsOf 4 datum
+halves-put : (datum : ℕ) → digitsOf 2 (datum / 256) ++ digitsOf 2 (datum % 256) ≡ digitsOf 4 datum
 unfolding digitsOf
 halves-put datum =
     let a : datum / 256 / 16 % 16 ≡ datum / 16 / 16 / 16 % 16 = omega arith in
@@ -133,15 +145,24 @@ halves-put datum =
     let d : datum % 256 % 16 ≡ datum % 16 = omega arith in
     rw (a, b, c, d) refl
 
--- the pages, digit by digit
-pub page-next : (line pages : List ℕ) (i : ℕ) → i < 16 → length pages ≡ 16 → length line ≡ 20 → take i pages ≡ map valueOf (part 4 i line)
-    → take (suc i) (set pages i (valueOf (getD line (4 + i) 0))) ≡ map valueOf (part 4 (suc i) line)
-page-next line pages i h size whole so =
-    take-suc-set pages i (valueOf (getD line (4 + i) 0)) (omega (arith, size, h))
-    ∙ ap (λ (l : List ℕ). l ++ valueOf (getD line (4 + i) 0) ∷ []) so
-    ∙ ap (λ (b : ℕ). map valueOf (part 4 i line) ++ valueOf b ∷ []) (sym (getD-drop 4 line i 0))
-    ∙ sym (map-append valueOf (part 4 i line) (getD (drop 4 line) i 0 ∷ []))
-    ∙ ap (map valueOf) (sym (take-suc (drop 4 line) i 0 (omega (arith, length-drop 4 line, whole, h))))
+-- so two numbers of two digits, put one behind the other, are one of four
+pub four-put : (place : List ℕ) (at n : ℕ)
+    → sets (sets place at (digitsOf 2 (n / 256))) (at + 2) (digitsOf 2 (n % 256)) ≡ sets place at (digitsOf 4 n)
+four-put place at n =
+    let high = digitsOf 2 (n / 256) in
+    ap (λ (k : ℕ). sets (sets place at high) (at + k) (digitsOf 2 (n % 256))) (sym (digits-long 2 (n / 256)))
+    ∙ sym (sets-append high (digitsOf 2 (n % 256)) place at)
+    ∙ ap (sets place at) (halves-put n)
+
+-- digits from a place on, one by one
+pub page-next : (line pages : List ℕ) (at i : ℕ) → i < length pages → at + i < length line → take i pages ≡ map valueOf (digitsFrom at i line)
+    → take (suc i) (set pages i (valueOf (getD line (at + i) 0))) ≡ map valueOf (digitsFrom at (suc i) line)
+page-next line pages at i h within so =
+    take-suc-set pages i (valueOf (getD line (at + i) 0)) h
+    ∙ ap (λ (l : List ℕ). l ++ valueOf (getD line (at + i) 0) ∷ []) so
+    ∙ ap (λ (b : ℕ). map valueOf (digitsFrom at i line) ++ valueOf b ∷ []) (sym (getD-drop at line i 0))
+    ∙ sym (map-append valueOf (digitsFrom at i line) (getD (drop at line) i 0 ∷ []))
+    ∙ ap (map valueOf) (sym (take-suc (drop at line) i 0 (omega (arith, length-drop at line, within))))
 
 -- ---- Which bytes are digits, by a bit for each
 

@@ -42,43 +42,46 @@ abbrev leads : List ℕ → Bool
 leads text = hasNewline text && isDigits eventDigits (firstLine text)
 
 pub record Led (text : List ℕ) : Type 0 where
-  pub long : 14 < length text
-  pub ends : getD text 14 0 ≡ newline
-  pub line : firstLine text ≡ take 14 text
-  pub right : everyListed isDigit (take 14 text) ≡ true
+  pub long : eventDigits < length text
+  pub ends : getD text eventDigits 0 ≡ newline
+  pub line : firstLine text ≡ take eventDigits text
+  pub right : everyListed isDigit (take eventDigits text) ≡ true
 
 pub led : (text : List ℕ) → leads text ≡ true → Led text
 led text e =
     let both = both-of (hasNewline text) (isDigits eventDigits (firstLine text)) e in
-    let digits = both-of (eqb (length (firstLine text)) 14) (everyListed isDigit (firstLine text)) (both .1) in
-    let size : length (firstLine text) ≡ 14 = eqb-true (length (firstLine text)) 14 (digits .0) in
-    let line : firstLine text ≡ take 14 text =
-    sym (ap (take 14) (splits text (both .0)) ∙ take-at (firstLine text) (newline ∷ restOf text) 14 size) in
+    let digits = both-of (eqb (length (firstLine text)) eventDigits) (everyListed isDigit (firstLine text)) (both .1) in
+    let size : length (firstLine text) ≡ eventDigits = eqb-true (length (firstLine text)) eventDigits (digits .0) in
+    let line : firstLine text ≡ take eventDigits text =
+    sym (ap (take eventDigits) (splits text (both .0)) ∙ take-at (firstLine text) (newline ∷ restOf text) eventDigits size) in
     record {
       long = omega (arith, size, line-within text (both .0));
-      ends = ap (λ (l : List ℕ). getD l 14 0) (splits text (both .0)) ∙ getD-at (firstLine text) newline (restOf text) 0 14 size;
+      ends = ap (λ (l : List ℕ). getD l eventDigits 0) (splits text (both .0)) ∙ getD-at (firstLine text) newline (restOf text) 0 eventDigits size;
       line = line;
       right = subst (λ (l : List ℕ). everyListed isDigit l ≡ true) line (digits .1);
     }
 
-pub lead-of : (text : List ℕ) → 14 < length text → getD text 14 0 ≡ newline → everyListed isDigit (take 14 text) ≡ true → leads text ≡ true
+pub lead-of : (text : List ℕ) → eventDigits < length text → getD text eventDigits 0 ≡ newline → everyListed isDigit (take eventDigits text) ≡ true
+    → leads text ≡ true
 lead-of text h ends right =
-    let size : length (take 14 text) ≡ 14 = length-take-le 14 text (omega (arith, h)) in
-    let so = first-at 14 text h
-    (λ i below n. digit-stays (getD text i 0) (subst (λ (b : ℕ). isDigit b ≡ true) (getD-take 14 text i 0 below) (every-at isDigit (take 14 text) right i (omega (arith, size, below)))) n)
+    let size : length (take eventDigits text) ≡ eventDigits = length-take-le eventDigits text (omega (arith, h)) in
+    let so = first-at eventDigits text h
+    (λ i below n.
+    let inside = every-at isDigit (take eventDigits text) right i (omega (arith, size, below)) in
+    digit-stays (getD text i 0) (subst (λ (b : ℕ). isDigit b ≡ true) (getD-take eventDigits text i 0 below) inside) n)
     ends in
-    rw (so .0, so .1, right) (ap (λ (n : ℕ). eqb n 14 && true) size)
+    rw (so .0, so .1, right) (ap (λ (n : ℕ). eqb n eventDigits && true) size)
 
 -- a text is led by a frame exactly where the code finds one
-pub lead-found : (text : List ℕ) → 14 < length text → getD text 14 0 ≡ newline → everyListed isDigit (take 14 text) ≡ leads text
-lead-found text h ends = tests-same (everyListed isDigit (take 14 text)) (leads text) (lead-of text h ends) (λ e. led text e .right)
+pub lead-found : (text : List ℕ) → eventDigits < length text → getD text eventDigits 0 ≡ newline → everyListed isDigit (take eventDigits text) ≡ leads text
+lead-found text h ends = tests-same (everyListed isDigit (take eventDigits text)) (leads text) (lead-of text h ends) (λ e. led text e .right)
 
 pub no-lead : (text : List ℕ) → (Led text → ⊥) → false ≡ leads text
 no-lead text none = ⊎-elim (λ e. absurd (none (led text e))) (λ e. sym e) (true-or-false (leads text))
 
 -- ---- The next line
 
-pub frame-next : (text : List ℕ) → leads text ≡ true → Line.Frame (eventIn (take 14 text)) ≡ nextLine text
+pub frame-next : (text : List ℕ) → leads text ≡ true → Line.Frame (eventIn (take eventDigits text)) ≡ nextLine text
 frame-next text e =
     let both = both-of (hasNewline text) (isDigits eventDigits (firstLine text)) e in
     ap (λ (l : List ℕ). Line.Frame (eventIn l)) (sym (led text e .line)) ∙ rw (both .0, both .1) refl
@@ -86,7 +89,10 @@ frame-next text e =
 pub bad-next : (text : List ℕ) → leads text ≡ false → length (firstLine text) < length text → Line.Bad (length (firstLine text)) ≡ nextLine text
 bad-next text e shorter =
     ⊎-elim
-    (λ (has : hasNewline text ≡ true). let wrong : isDigits eventDigits (firstLine text) ≡ false = subst (λ (t : Bool). (t && isDigits eventDigits (firstLine text)) ≡ false) has e in rw (has, wrong) refl)
+    (λ (has : hasNewline text ≡ true).
+    let wrong : isDigits eventDigits (firstLine text) ≡ false =
+    subst (λ (t : Bool). (t && isDigits eventDigits (firstLine text)) ≡ false) has e in
+    rw (has, wrong) refl)
     (λ has. absurd (omega (arith, shorter, ap length (unended text has))))
     (true-or-false (hasNewline text))
 
@@ -162,6 +168,6 @@ lines-told text = (λ has. rw has (told (isDigits eventDigits (firstLine text)) 
     told true e =
         rw e (
           (λ n. absurd (no-refusal n), λ f. absurd (true≢false f)),
-          ap (λ (n : ℕ). n + 1) (sym (eqb-true _ _ (both-of (eqb (length (firstLine text)) 14) (everyListed isDigit (firstLine text)) e .0))),
+          ap (λ (n : ℕ). n + 1) (sym (eqb-true _ _ (both-of (eqb (length (firstLine text)) eventDigits) (everyListed isDigit (firstLine text)) e .0))),
         )
     told false e = rw e ((λ n. refl, λ f. refl), refl)

@@ -4,5 +4,7 @@ pub mod DigitLaws
 pub mod NewlineLaws
 pub mod FrameLaws
 pub mod ReadingLaws
+pub mod TakingLaws
 pub mod LinePromises
+pub mod ChunkLaws
 pub mod ReadBack

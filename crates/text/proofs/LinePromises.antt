@@ -10,11 +10,10 @@ use lib.ListN.{length, take, length-take}
 use lib.Seq.{append-snoc, take-take}
 use Rattle.words.proofs.TestLaws.{true-or-false, neither-of}
 use Rattle.text.specs.Newlines.{newline, hasNewline, firstLine, restOf, lastLine, linesAfter, textLines}
-use Rattle.text.specs.Frames.{longest}
-use Rattle.text.specs.Reading.{answersTo, takenOff}
-use Rattle.text.specs.Promises.{LineEnded, LineUnended, SplitsAtNewline, HeldIsShort, TakenIsTheWhole, HeldIsEnough}
+use Rattle.text.specs.Reading.{Reader, Taken, answersTo, mostHeld}
+use Rattle.text.specs.Promises.{LineEnded, LineUnended, SplitsAtNewline, HeldIsShort, TakenIsTheWhole, TakenFits, GoesByFront, HeldIsEnough}
 use Rattle.text.proofs.NewlineLaws.{by-newline, splits}
-use Rattle.text.proofs.ReadingLaws.{taken-line, taken-none, none-taken}
+use Rattle.text.proofs.ReadingLaws.{by-lines, said-within, all-ended}
 
 -- ---- Lines
 
@@ -64,34 +63,40 @@ lines-first text more has =
 
 -- ---- In pieces
 
-module _ (S : Type 0) (says : S → List ℕ → List ℕ) (turns : S → List ℕ → S) where
+module _ {S : Type 0} (r : Reader S) where
   one-answered : (s : S) (line : List ℕ) (lines : List (List ℕ))
-      → answersTo says turns s (line ∷ lines) ≡ says s line ++ answersTo says turns (turns s line) lines
+      → answersTo r s (line ∷ lines) ≡ r .says s line ++ answersTo r (r .turns s line) lines
   unfolding answersTo
   one-answered s line lines = refl
 
-  taken-whole : (n : ℕ) (s : S) (text more : List ℕ)
-      → answersTo says turns s (textLines (text ++ more))
-      ≡ takenOff says turns n s text .said ++ answersTo says turns (takenOff says turns n s text .state) (textLines (takenOff says turns n s text .rest ++ more))
-  taken-whole zero s text more = rw (none-taken says turns s text) refl
-  taken-whole (suc n) s text more =
-      ⊎-elim
-      (λ (has : hasNewline text ≡ true).
-      let t = takenOff says turns n (turns s (firstLine text)) (restOf text) in
-      rw (taken-line says turns n s text has) (
-      ap (answersTo says turns s) (lines-first text more has)
+  -- one line more before what is the whole
+  line-whole : (s : S) (text more : List ℕ) (later : Taken S) → hasNewline text ≡ true
+      → answersTo r (r .turns s (firstLine text)) (textLines (restOf text ++ more))
+      ≡ later .said ++ answersTo r (later .state) (textLines (later .rest ++ more))
+      → answersTo r s (textLines (text ++ more))
+      ≡ (r .says s (firstLine text) ++ later .said) ++ answersTo r (later .state) (textLines (later .rest ++ more))
+  line-whole s text more later has so =
+      let line = r .says s (firstLine text) in
+      ap (answersTo r s) (lines-first text more has)
       ∙ one-answered s (firstLine text) (textLines (restOf text ++ more))
-      ∙ ap (λ (l : List ℕ). says s (firstLine text) ++ l) (taken-whole n (turns s (firstLine text)) (restOf text) more)
-      ∙ sym (append-assoc (says s (firstLine text)) (t .said) (answersTo says turns (t .state) (textLines (t .rest ++ more))))))
-      (λ (none : hasNewline text ≡ false). rw (taken-none says turns (suc n) s text none) refl)
-      (true-or-false (hasNewline text))
+      ∙ ap (λ (l : List ℕ). line ++ l) so
+      ∙ sym (append-assoc line (later .said) (answersTo r (later .state) (textLines (later .rest ++ more))))
 
 pub taken-is-the-whole : TakenIsTheWhole
-taken-is-the-whole S says turns n s text more = taken-whole S says turns n s text more
+taken-is-the-whole S r n room s text more =
+    by-lines r
+    (λ room s text t.
+    answersTo r s (textLines (text ++ more)) ≡ t .said ++ answersTo r (t .state) (textLines (t .rest ++ more)))
+    (λ room s text. refl)
+    (λ room s text later has fits so. line-whole r s text more later has so)
+    n room s text
+
+pub taken-fits : TakenFits
+taken-fits S r short room s text = (said-within r short (length text) room s text, all-ended r short room s text)
 
 -- ---- What is held
 
-front-has-none : (n : ℕ) (line : List ℕ) → hasNewline line ≡ false → hasNewline (take n line) ≡ false
+pub front-has-none : (n : ℕ) (line : List ℕ) → hasNewline line ≡ false → hasNewline (take n line) ≡ false
 unfolding hasNewline
 front-has-none zero line none = refl
 front-has-none (suc n) [] none = refl
@@ -107,43 +112,43 @@ front-of (suc n) (b ∷ begin) end = ap (λ (l : List ℕ). b ∷ l) (front-of n
 same-fronts : (n : ℕ) (h g end : List ℕ) → take n h ≡ take n g → take n (h ++ end) ≡ take n (g ++ end)
 same-fronts n h g end e = front-of n h end ∙ ap (λ (l : List ℕ). take n (l ++ end)) e ∙ sym (front-of n g end)
 
-module _ (S : Type 0) (says : S → List ℕ → List ℕ) (turns : S → List ℕ → S)
-    (cut : (s : S) (line : List ℕ) → (says s (take (1 + longest) line) ≡ says s line) × (turns s (take (1 + longest) line) ≡ turns s line)) where
-  same-said : (s : S) (h g : List ℕ) → take 21 h ≡ take 21 g → says s h ≡ says s g
-  same-said s h g e = sym (cut s h .0) ∙ ap (says s) e ∙ cut s g .0
+module _ {S : Type 0} (r : Reader S) (cut : GoesByFront r) where
+  same-said : (s : S) (h g : List ℕ) → take mostHeld h ≡ take mostHeld g → r .says s h ≡ r .says s g
+  same-said s h g e = sym (cut s h .0) ∙ ap (r .says s) e ∙ cut s g .0
 
-  same-turn : (s : S) (h g : List ℕ) → take 21 h ≡ take 21 g → turns s h ≡ turns s g
-  same-turn s h g e = sym (cut s h .1) ∙ ap (turns s) e ∙ cut s g .1
+  same-turn : (s : S) (h g : List ℕ) → take mostHeld h ≡ take mostHeld g → r .turns s h ≡ r .turns s g
+  same-turn s h g e = sym (cut s h .1) ∙ ap (r .turns s) e ∙ cut s g .1
 
-  last-same : (s : S) (h g : List ℕ) → take 21 h ≡ take 21 g → answersTo says turns s (lastLine h) ≡ answersTo says turns s (lastLine g)
+  last-same : (s : S) (h g : List ℕ) → take mostHeld h ≡ take mostHeld g → answersTo r s (lastLine h) ≡ answersTo r s (lastLine g)
   unfolding answersTo lastLine
   last-same s [] [] e = refl
   last-same s [] (b ∷ g) e = absurd (omega (arith, ap length e))
   last-same s (b ∷ h) [] e = absurd (omega (arith, ap length e))
   last-same s (b ∷ h) (a ∷ g) e = ap (λ (l : List ℕ). l ++ []) (same-said s (b ∷ h) (a ∷ g) e)
 
-  cut-same : (s : S) (h g text : List ℕ) → take 21 h ≡ take 21 g → answersTo says turns s (linesAfter h text) ≡ answersTo says turns s (linesAfter g text)
+  cut-same : (s : S) (h g text : List ℕ) → take mostHeld h ≡ take mostHeld g → answersTo r s (linesAfter h text) ≡ answersTo r s (linesAfter g text)
   unfolding linesAfter
   cut-same s h g [] e = last-same s h g e
   cut-same s h g (b ∷ text) e =
       ⊎-elim
       (λ (ends : eqb b newline ≡ true).
       rw ends (
-      one-answered S says turns s h (linesAfter [] text)
-      ∙ ap₂ (λ (l : List ℕ) (t : S). l ++ answersTo says turns t (linesAfter [] text)) (same-said s h g e) (same-turn s h g e)
-      ∙ sym (one-answered S says turns s g (linesAfter [] text))))
-      (λ (goes-on : eqb b newline ≡ false). rw goes-on (cut-same s (h ++ b ∷ []) (g ++ b ∷ []) text (same-fronts 21 h g (b ∷ []) e)))
+      one-answered r s h (linesAfter [] text)
+      ∙ ap₂ (λ (l : List ℕ) (t : S). l ++ answersTo r t (linesAfter [] text)) (same-said s h g e) (same-turn s h g e)
+      ∙ sym (one-answered r s g (linesAfter [] text))))
+      (λ (goes-on : eqb b newline ≡ false).
+      rw goes-on (cut-same s (h ++ b ∷ []) (g ++ b ∷ []) text (same-fronts mostHeld h g (b ∷ []) e)))
       (true-or-false (eqb b newline))
 
 pub held-is-enough : HeldIsEnough
-held-is-enough S says turns cut s rest more =
+held-is-enough S r cut s rest more =
     ⊎-elim
     (λ (has : hasNewline rest ≡ true). rw has refl)
     (λ (none : hasNewline rest ≡ false).
     rw none (
-    ap (answersTo says turns s) (begun (take 21 rest) more (front-has-none 21 rest none))
-    ∙ cut-same S says turns cut s (take 21 rest) rest more (take-take 21 21 rest (omega arith))
-    ∙ ap (answersTo says turns s) (sym (begun rest more none))))
+    ap (answersTo r s) (begun (take mostHeld rest) more (front-has-none mostHeld rest none))
+    ∙ cut-same r cut s (take mostHeld rest) rest more (take-take mostHeld mostHeld rest (omega arith))
+    ∙ ap (answersTo r s) (sym (begun rest more none))))
     (true-or-false (hasNewline rest))
 
 -- ---- A line with its newline
@@ -174,4 +179,4 @@ pub splits-at-newline : SplitsAtNewline
 splits-at-newline text has = (splits text has, first-has-none text)
 
 pub held-is-short : HeldIsShort
-held-is-short rest none = rw none (omega (arith, length-take 21 rest))
+held-is-short rest none = rw none (omega (arith, length-take mostHeld rest))

@@ -41,7 +41,9 @@ unended =
 
 -- the first line is within the text, and shorter exactly where there is a newline
 pub line-within : (text : List ℕ) → hasNewline text ≡ true → length (firstLine text) < length text
-line-within text e = subst (λ (l : List ℕ). length (firstLine text) < length l) (sym (splits text e)) (omega (arith, length-append (firstLine text) (newline ∷ restOf text)))
+line-within text e =
+    subst (λ (l : List ℕ). length (firstLine text) < length l) (sym (splits text e))
+    (omega (arith, length-append (firstLine text) (newline ∷ restOf text)))
 
 -- ---- Where the first line ends, looked for byte by byte
 

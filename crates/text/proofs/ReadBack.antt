@@ -12,15 +12,28 @@ use lib.Seq.{getD-append-add, take-all}
 use lib.Pow.{pow-add}
 use borrow.Author.Tests.{leb-true, leb-false, le-leb, lt-leb, eq-eqb}
 use Rattle.words.specs.Among.{everyListed}
+use Rattle.words.specs.Parts.{total, laidOut, nthPart}
+use Rattle.words.proofs.PartLaws.{laid-long}
 use Rattle.words.proofs.ListLaws.{every-at, every-of}
+use Rattle.bus.specs.declared.state.Chassis.{Chassis}
 use Rattle.judgement.specs.Table.{eventOf}
 use Rattle.judgement.specs.declared.event.Event.{Event}
-use Rattle.text.specs.Digits.{isDigit, valueOf, digitOf, numberAfter, numberOf, digitsOf, isDigits}
-use Rattle.text.specs.Frames.{part, eventIn}
-use Rattle.text.specs.AnswerLine.{answerDigits, answerLine}
-use Rattle.text.specs.Promises.{eventLine, setupLine, answerIn, DigitsReadBack, NumbersReadBack, EventReadsBack, SetupReadsBack, AnswerReadsBack, EventFits}
+use Rattle.text.specs.Digits.{isDigit, valueOf, digitOf, numberAfter, numberOf, digitsOf, inDigits, isDigits}
+use Rattle.text.specs.Frames.{eventDigits, eventIn, setupWidths, setupDigits}
+use Rattle.text.specs.AnswerLine.{answerFields, answerParts, answerWidths, answerDigits, answerLine}
+use Rattle.text.specs.Promises.{
+  eventLine,
+  setupLine,
+  answerOnLine,
+  DigitsReadBack,
+  NumbersReadBack,
+  EventReadsBack,
+  SetupReadsBack,
+  AnswerReadsBack,
+  EventFits,
+}
 use Rattle.events.specs.declared.answers.Answer.{Answer}
-use Rattle.text.proofs.DigitLaws.{digit-kinds, value-small}
+use Rattle.text.proofs.DigitLaws.{digit-kinds, value-small, digits-long, digits-sized}
 use Rattle.text.proofs.ReadingLaws.{answer-long}
 
 -- ---- One digit
@@ -46,17 +59,26 @@ value-high : (b : ℕ) → 0x39 < b → valueOf b ≡ b - 0x37
 value-high b h = rw (lt-leb b 0x39 h) refl
 
 digit-is : (n : ℕ) → n < 16 → isDigit (digitOf n) ≡ true
-digit-is n h = digit-either (λ b. isDigit b ≡ true) n (λ low. is-low (0x30 + n) (omega arith) (omega (arith, low))) (λ high. is-high (0x37 + n) (omega (arith, high)) (omega (arith, h)))
+digit-is n h =
+    digit-either (λ b. isDigit b ≡ true) n
+    (λ low. is-low (0x30 + n) (omega arith) (omega (arith, low)))
+    (λ high. is-high (0x37 + n) (omega (arith, high)) (omega (arith, h)))
 
 digit-back : (n : ℕ) → n < 16 → valueOf (digitOf n) ≡ n
 digit-back n h =
-    digit-either (λ b. valueOf b ≡ n) n (λ low. value-low (0x30 + n) (omega (arith, low)) ∙ omega arith) (λ high. value-high (0x37 + n) (omega (arith, high)) ∙ omega arith)
+    digit-either (λ b. valueOf b ≡ n) n
+    (λ low. value-low (0x30 + n) (omega (arith, low)) ∙ omega arith)
+    (λ high. value-high (0x37 + n) (omega (arith, high)) ∙ omega arith)
 
 digit-again : (b : ℕ) → isDigit b ≡ true → digitOf (valueOf b) ≡ b
 digit-again b e =
     ⊎-elim
-    (λ low. ap digitOf (value-low b (low .1)) ∙ digit-either (λ x. x ≡ b) (b - 0x30) (λ h. omega (arith, low .0)) (λ h. absurd (omega (arith, h, low .1))))
-    (λ high. ap digitOf (value-high b (omega (arith, high .0))) ∙ digit-either (λ x. x ≡ b) (b - 0x37) (λ h. absurd (omega (arith, h, high .0))) (λ h. omega (arith, high .0)))
+    (λ low.
+    ap digitOf (value-low b (low .1))
+    ∙ digit-either (λ x. x ≡ b) (b - 0x30) (λ h. omega (arith, low .0)) (λ h. absurd (omega (arith, h, low .1))))
+    (λ high.
+    ap digitOf (value-high b (omega (arith, high .0)))
+    ∙ digit-either (λ x. x ≡ b) (b - 0x37) (λ h. absurd (omega (arith, h, high .0))) (λ h. omega (arith, high .0)))
     (digit-kinds b e)
 
 pub digits-read-back : DigitsReadBack
@@ -87,15 +109,11 @@ one-digit-is n h = every-of isDigit (digitOf n ∷ []) (λ i k. go i k)
     go zero k = digit-is n h
     go (suc i) k = absurd (omega (arith, k))
 
-digits-long : (count n : ℕ) → length (digitsOf count n) ≡ count
-unfolding digitsOf
-digits-long zero n = refl
-digits-long (suc count) n = length-append (digitsOf count (n / 16)) (digitOf (n % 16) ∷ []) ∙ omega (arith, digits-long count (n / 16))
-
 digits-are : (count n : ℕ) → everyListed isDigit (digitsOf count n) ≡ true
 unfolding digitsOf
 digits-are zero n = every-of isDigit [] (λ i h. absurd (omega (arith, h)))
-digits-are (suc count) n = every-append isDigit (digitsOf count (n / 16)) (digitOf (n % 16) ∷ []) (digits-are count (n / 16)) (one-digit-is (n % 16) (omega arith))
+digits-are (suc count) n =
+    every-append isDigit (digitsOf count (n / 16)) (digitOf (n % 16) ∷ []) (digits-are count (n / 16)) (one-digit-is (n % 16) (omega arith))
 
 numbers-back : (count n : ℕ) → n < 16 ^ count → numberOf (digitsOf count n) ≡ n
 unfolding digitsOf numberAfter
@@ -116,6 +134,12 @@ numbers-back (suc count) n h =
     pow-suc : (c : ℕ) → 16 ^ suc c ≡ 16 ^ c * 16
     pow-suc c = ap (λ (k : ℕ). 16 ^ k) (next c) ∙ pow-add 16 c 1
 
+-- fields of digits are digits
+fields-digits : {A : Type 0} (fields : List (ℕ × (A → ℕ))) (a : A) → everyListed isDigit (laidOut (inDigits fields) a) ≡ true
+fields-digits [] a = every-of isDigit [] (λ i h. absurd (omega (arith, h)))
+fields-digits (field ∷ fields) a =
+    every-append isDigit (digitsOf (field .0) (field .1 a)) (laidOut (inDigits fields) a) (digits-are (field .0) (field .1 a)) (fields-digits fields a)
+
 more-digits : (front : List ℕ) (count n : ℕ) → everyListed isDigit front ≡ true → everyListed isDigit (front ++ digitsOf count n) ≡ true
 more-digits front count n so = every-append isDigit front (digitsOf count n) so (digits-are count n)
 
@@ -127,13 +151,7 @@ numbers-read-back count n h = (right-digits count (digitsOf count n) (digits-lon
 
 -- ---- Lines
 
-parts : (event : Event)
-    → eventIn (eventLine event)
-    ≡ eventOf (numberOf (digitsOf 2 (event .kind))) (numberOf (digitsOf 2 (event .speaker))) (numberOf (digitsOf 6 (event .address))) (numberOf (digitsOf 4 (event .datum)))
-unfolding digitsOf
-parts event = refl
-
-event-long : (event : Event) → length (eventLine event) ≡ 14
+event-long : (event : Event) → length (eventLine event) ≡ eventDigits
 unfolding digitsOf
 event-long event = refl
 
@@ -144,18 +162,27 @@ event-digits event =
     more-digits speaker 6 (event .address) (more-digits (digitsOf 2 (event .kind)) 2 (event .speaker) (digits-are 2 (event .kind))))
 
 -- each field of a line is a number's digits
-event-parts : (event : Event) → EventFits event → eventIn (eventLine event) ≡ event
-event-parts event fits =
-    fields (numberOf (digitsOf 2 (event .kind))) (numberOf (digitsOf 2 (event .speaker))) (numberOf (digitsOf 6 (event .address))) (numberOf (digitsOf 4 (event .datum)))
-    (parts event) (numbers-back 2 (event .kind) (fits .kind)) (numbers-back 2 (event .speaker) (fits .speaker)) (numbers-back 6 (event .address) (fits .address))
-    (numbers-back 4 (event .datum) (fits .datum))
-  where
-    fields : (k s a d : ℕ) → eventIn (eventLine event) ≡ eventOf k s a d → k ≡ event .kind → s ≡ event .speaker → a ≡ event .address → d ≡ event .datum
-        → eventIn (eventLine event) ≡ event
-    fields k s a d e ek es ea ed = e ∙ rw (ek, es, ea, ed) refl
+event-parts : (event : Event)
+    → eventIn (eventLine event)
+    ≡ eventOf (numberOf (digitsOf 2 (event .kind)))
+    (numberOf (digitsOf 2 (event .speaker)))
+    (numberOf (digitsOf 6 (event .address)))
+    (numberOf (digitsOf 4 (event .datum)))
+unfolding digitsOf
+event-parts event = refl
+
+event-back : (event : Event) → EventFits event → eventIn (eventLine event) ≡ event
+event-back event fits =
+    event-parts event
+    ∙ rw (
+      numbers-back 2 (event .kind) (fits .kind),
+      numbers-back 2 (event .speaker) (fits .speaker),
+      numbers-back 6 (event .address) (fits .address),
+      numbers-back 4 (event .datum) (fits .datum),
+    ) refl
 
 pub event-reads-back : EventReadsBack
-event-reads-back event fits = (right-digits 14 (eventLine event) (event-long event) (event-digits event), event-parts event fits)
+event-reads-back event fits = (right-digits eventDigits (eventLine event) (event-long event) (event-digits event), event-back event fits)
 
 -- the pages' digits stand for the pages
 pages-back : (pages : List ℕ) → ((p : ℕ) → p < length pages → getD pages p 0 < 16) → map valueOf (map digitOf pages) ≡ pages
@@ -170,38 +197,29 @@ pages-digits (page ∷ pages) small =
     every-append isDigit (digitOf page ∷ []) (map digitOf pages) (one-digit-is page (small 0 (omega arith)))
     (pages-digits pages (λ p h. small (suc p) (omega (arith, h))))
 
-setup-front : (fitted : ℕ) (pages : List ℕ) → part 0 4 (setupLine fitted pages) ≡ digitsOf 4 fitted
+-- the first part of the line, and the second
+setup-front : (given : Chassis) → nthPart 0 setupWidths (setupLine given) ≡ digitsOf 4 (given .fitted)
 unfolding digitsOf
-setup-front fitted pages = refl
+setup-front given = refl
 
-setup-behind : (fitted : ℕ) (pages : List ℕ) → length pages ≡ 16 → part 4 16 (setupLine fitted pages) ≡ map digitOf pages
+setup-behind : (given : Chassis) → length (given .pages) ≡ 16 → nthPart 1 setupWidths (setupLine given) ≡ map digitOf (given .pages)
 unfolding digitsOf
-setup-behind fitted pages size = take-all 16 (map digitOf pages) (omega (arith, length-map pages digitOf, size))
+setup-behind given size = take-all 16 (map digitOf (given .pages)) (omega (arith, length-map (given .pages) digitOf, size))
 
 pub setup-reads-back : SetupReadsBack
-setup-reads-back fitted pages h size small =
-    let line = setupLine fitted pages in
-    let long : length line ≡ 20 = length-append (digitsOf 4 fitted) (map digitOf pages) ∙ omega (arith, digits-long 4 fitted, length-map pages digitOf, size) in
-    let right = right-digits 20 line long (every-append isDigit (digitsOf 4 fitted) (map digitOf pages) (digits-are 4 fitted) (pages-digits pages small)) in
-    rw right (
-    rw (ap numberOf (setup-front fitted pages) ∙ numbers-back 4 fitted h, ap (map valueOf) (setup-behind fitted pages size) ∙ pages-back pages small) refl)
+setup-reads-back given fits =
+    let pages = map digitOf (given .pages) in
+    let long : length (setupLine given) ≡ setupDigits =
+    length-append (digitsOf 4 (given .fitted)) pages
+    ∙ omega (arith, digits-long 4 (given .fitted), length-map (given .pages) digitOf, fits .sixteen) in
+    let digits = every-append isDigit (digitsOf 4 (given .fitted)) pages (digits-are 4 (given .fitted)) (pages-digits (given .pages) (fits .pages)) in
+    rw (right-digits setupDigits (setupLine given) long digits) (
+    rw (
+      ap numberOf (setup-front given) ∙ numbers-back 4 (given .fitted) (fits .fitted),
+      ap (map valueOf) (setup-behind given (fits .sixteen)) ∙ pages-back (given .pages) (fits .pages),
+    ) refl)
 
-answer-digits-are : (a : Answer) → everyListed isDigit (answerDigits a) ≡ true
-answer-digits-are a =
-    let phase = digitsOf 2 (a .refusal) ++ digitsOf 2 (a .phase) in
-    let granted = phase ++ digitsOf 2 (a .granted) in
-    let lines = granted ++ digitsOf 2 (a .lines) in
-    let signals = lines ++ digitsOf 2 (a .signals) in
-    let status = signals ++ digitsOf 2 (a .status) in
-    let cycles = status ++ digitsOf 2 (a .cycles) in
-    more-digits cycles 4 (a .datum) (
-    more-digits status 2 (a .cycles) (
-    more-digits signals 2 (a .status) (
-    more-digits lines 2 (a .signals) (
-    more-digits granted 2 (a .lines) (
-    more-digits phase 2 (a .granted) (more-digits (digitsOf 2 (a .refusal)) 2 (a .phase) (digits-are 2 (a .refusal))))))))
-
-answer-parts : (a : Answer) → answerIn (answerLine a) ≡ record {
+answer-parts : (a : Answer) → answerOnLine (answerLine a) ≡ record {
   refusal = numberOf (digitsOf 2 (a .refusal));
   phase = numberOf (digitsOf 2 (a .phase));
   granted = numberOf (digitsOf 2 (a .granted));
@@ -214,14 +232,19 @@ answer-parts : (a : Answer) → answerIn (answerLine a) ≡ record {
 unfolding digitsOf
 answer-parts a = refl
 
-answer-size : (a : Answer) → length (answerDigits a) ≡ 18
-unfolding digitsOf
-answer-size a = refl
-
 pub answer-reads-back : AnswerReadsBack
 answer-reads-back a = (
-  (right-digits 18 (answerDigits a) (answer-size a) (answer-digits-are a), answer-long a),
+  (right-digits (total answerWidths) (answerDigits a) (laid-long a answerParts (digits-sized answerFields a)) (fields-digits answerFields a), answer-long a),
   λ fits.
       answer-parts a
-      ∙ rw (numbers-back 2 (a .refusal) (fits .refusal), numbers-back 2 (a .phase) (fits .phase), numbers-back 2 (a .granted) (fits .granted), numbers-back 2 (a .lines) (fits .lines), numbers-back 2 (a .signals) (fits .signals), numbers-back 2 (a .status) (fits .status), numbers-back 2 (a .cycles) (fits .cycles), numbers-back 4 (a .datum) (fits .datum)) refl,
+      ∙ rw (
+        numbers-back 2 (a .refusal) (fits .refusal),
+        numbers-back 2 (a .phase) (fits .phase),
+        numbers-back 2 (a .granted) (fits .granted),
+        numbers-back 2 (a .lines) (fits .lines),
+        numbers-back 2 (a .signals) (fits .signals),
+        numbers-back 2 (a .status) (fits .status),
+        numbers-back 2 (a .cycles) (fits .cycles),
+        numbers-back 4 (a .datum) (fits .datum),
+      ) refl,
 )

@@ -5,6 +5,7 @@ use mathlib.Core.List.{List, [], _∷_, _++_}
 use lib.Dec.{eqb, leb}
 use lib.ListN.{length}
 use Rattle.words.specs.Among.{everyListed}
+use Rattle.words.specs.Parts.{Part}
 
 -- the bytes 0 to 9 and A to F; no lower case
 abbrev pub isDigit : ℕ → Bool
@@ -30,6 +31,11 @@ numberOf digits = numberAfter 0 digits
 unfoldable pub digitsOf : ℕ → ℕ → List ℕ
 digitsOf zero n = []
 digitsOf (suc count) n = digitsOf count (n / 16) ++ digitOf (n % 16) ∷ []
+
+-- numbers of a value as parts of a line, each in so many digits
+abbrev pub inDigits : {A : Type 0} → List (ℕ × (A → ℕ)) → List (Part A)
+inDigits [] = []
+inDigits (field ∷ fields) = record { width = field .0; bytes = λ a. digitsOf (field .0) (field .1 a) } ∷ inDigits fields
 
 -- exactly so many bytes, all of them digits
 abbrev pub isDigits : ℕ → List ℕ → Bool

@@ -1,18 +1,19 @@
 -- Lines and frames written out: 01's own, and those that are nearly right.
-use Prim.Native.Nat.{ℕ}
+use Prim.Native.Nat.{ℕ, suc, _+_, _-_}
 use mathlib.Core.Path.{_≡_}
 use mathlib.Core.Bool.{true, false}
 use mathlib.Core.List.{List, [], _∷_, _++_}
-use lib.ListN.{drop, replicate}
+use lib.ListN.{take, drop, replicate}
 use Rattle.bus.specs.Refusal.{accepted, badLine}
+use Rattle.bus.specs.State.{chassis}
 use Rattle.judgement.specs.Table.{eventOf}
 use Rattle.events.specs.declared.answers.Answer.{Answer}
 use Rattle.text.specs.declared.frames.Line.{Line}
 use Rattle.text.specs.Digits.{isDigit, valueOf, digitOf, isDigits}
 use Rattle.text.specs.Newlines.{newline, textLines}
-use Rattle.text.specs.Frames.{eventIn, setupIn, nextLine}
-use Rattle.text.specs.AnswerLine.{answerLine, printed, bytesPut}
-use Rattle.text.specs.Reading.{heldOf}
+use Rattle.text.specs.Frames.{eventIn, setupIn, longest, nextLine}
+use Rattle.text.specs.AnswerLine.{answerLine, answerLength, printed, bytesPut}
+use Rattle.text.specs.Reading.{Reader, firstTaken, takenOff, heldOf}
 
 -- ---- Digits, and the bytes beside them
 
@@ -59,9 +60,9 @@ abbrev pub setup : List ℕ
 setup = 0x30 ∷ 0x30 ∷ 0x30 ∷ 0x41 ∷ 0x31 ∷ 0x32 ∷ 0x30 ∷ 0x30 ∷ 0x30 ∷ 0x30 ∷ 0x30 ∷ 0x30 ∷ 0x30 ∷ 0x30 ∷ 0x30 ∷ 0x30 ∷ 0x30 ∷ 0x30 ∷ 0x30 ∷ 0x30 ∷ []
 
 pub record SetupLines : Type 0 where
-  pub right : setupIn setup ≡ record { refusal = accepted; fitted = 0x000A; pages = 1 ∷ 2 ∷ replicate 14 0 }
-  pub anEvent : setupIn wordWrite ≡ record { refusal = badLine; fitted = 0; pages = replicate 16 0 }
-  pub tooLong : setupIn (setup ++ 0x30 ∷ []) ≡ record { refusal = badLine; fitted = 0; pages = replicate 16 0 }
+  pub right : setupIn setup ≡ record { refusal = accepted; chassis = chassis 0x000A (1 ∷ 2 ∷ replicate 14 0) }
+  pub anEvent : setupIn wordWrite ≡ record { refusal = badLine; chassis = chassis 0 (replicate 16 0) }
+  pub tooLong : setupIn (setup ++ 0x30 ∷ []) ≡ record { refusal = badLine; chassis = chassis 0 (replicate 16 0) }
 
 -- ---- An answer line with every digit
 
@@ -80,10 +81,13 @@ eachDigit = record {
 pub record AnswerInPlace : Type 0 where
   pub line : answerLine eachDigit
       ≡ 0x31 ∷ 0x32 ∷ 0x33 ∷ 0x34 ∷ 0x35 ∷ 0x36 ∷ 0x37 ∷ 0x38 ∷ 0x39 ∷ 0x41 ∷ 0x42 ∷ 0x43 ∷ 0x44 ∷ 0x45 ∷ 0x46 ∷ 0x30 ∷ 0x31 ∷ 0x32 ∷ 0x0A ∷ []
-  -- it takes nineteen bytes at the front, and a shorter place is left alone
-  pub room : bytesPut (replicate 20 0) ∷ bytesPut (replicate 19 0) ∷ bytesPut (replicate 18 0) ∷ [] ≡ 19 ∷ 19 ∷ 0 ∷ []
-  pub behind : drop 19 (printed eachDigit (replicate 20 0x55)) ≡ 0x55 ∷ []
-  pub tooShort : printed eachDigit (replicate 18 0x55) ≡ replicate 18 0x55
+  pub long : answerLength ≡ 19
+  -- it takes so many bytes at the front, and a shorter place is left alone
+  pub room : bytesPut (replicate (1 + answerLength) 0) ≡ answerLength
+  pub whole : bytesPut (replicate answerLength 0) ≡ answerLength
+  pub none : bytesPut (replicate (answerLength - 1) 0) ≡ 0
+  pub behind : drop answerLength (printed eachDigit (replicate (1 + answerLength) 0x55)) ≡ 0x55 ∷ []
+  pub tooShort : printed eachDigit (replicate (answerLength - 1) 0x55) ≡ replicate (answerLength - 1) 0x55
 
 -- ---- Lines
 
@@ -95,8 +99,28 @@ pub record LinesOfTexts : Type 0 where
   pub emptyBetween : textLines (0x41 ∷ newline ∷ newline ∷ 0x42 ∷ []) ≡ (0x41 ∷ []) ∷ [] ∷ (0x42 ∷ []) ∷ []
   pub carriageReturn : textLines (0x41 ∷ 0x0D ∷ newline ∷ []) ≡ (0x41 ∷ 0x0D ∷ []) ∷ []
 
--- An unended line is held up to its twenty-first byte; a text with a newline is held whole.
+-- An unended line is held up to the byte behind the longest right line; a text with a newline is held whole.
 pub record Held : Type 0 where
-  pub twenty : heldOf (replicate 20 0x30) ≡ replicate 20 0x30
-  pub more : heldOf (replicate 30 0x30) ≡ replicate 21 0x30
+  pub long : longest ≡ 20
+  pub right : heldOf (replicate longest 0x30) ≡ replicate longest 0x30
+  pub more : heldOf (replicate 30 0x30) ≡ replicate (1 + longest) 0x30
   pub lines : heldOf (replicate 30 0x30 ++ newline ∷ []) ≡ replicate 30 0x30 ++ newline ∷ []
+
+-- ---- Lines taken where there is room
+
+-- a reader that says each line again, up to two bytes of it, and counts the lines
+abbrev pub echo : Reader ℕ
+echo = record { says = λ count line. take 2 line; turns = λ count line. suc count; most = 2 }
+
+-- AB, C and DE have ended, and F has not
+abbrev pub fewLines : List ℕ
+fewLines = 0x41 ∷ 0x42 ∷ newline ∷ 0x43 ∷ newline ∷ 0x44 ∷ 0x45 ∷ newline ∷ 0x46 ∷ []
+
+pub record LinesWithRoom : Type 0 where
+  pub all : takenOff echo 5 0 fewLines ≡ record { state = 3; said = 0x41 ∷ 0x42 ∷ 0x43 ∷ 0x44 ∷ 0x45 ∷ []; used = 8; rest = 0x46 ∷ [] }
+  -- behind AB and C a byte of four is left, and two might be said
+  pub two : takenOff echo 4 0 fewLines
+      ≡ record { state = 2; said = 0x41 ∷ 0x42 ∷ 0x43 ∷ []; used = 5; rest = 0x44 ∷ 0x45 ∷ newline ∷ 0x46 ∷ [] }
+  pub none : takenOff echo 1 0 fewLines ≡ record { state = 0; said = []; used = 0; rest = fewLines }
+  pub first : firstTaken echo 0 fewLines
+      ≡ record { state = 1; said = 0x41 ∷ 0x42 ∷ []; used = 3; rest = 0x43 ∷ newline ∷ 0x44 ∷ 0x45 ∷ newline ∷ 0x46 ∷ [] }

@@ -1,9 +1,12 @@
 -- The setup line and the event line, field by field, and what a text begins with (01, "The program and one whole run").
 use Prim.Native.Nat.{ℕ, _+_}
 use mathlib.Core.Bool.{cond}
-use mathlib.Core.List.{List, map}
-use lib.ListN.{length, take, drop, replicate}
+use mathlib.Core.List.{List, [], _∷_, map}
+use lib.ListN.{length, take, drop}
+use Rattle.words.specs.Parts.{total, nthPart}
 use Rattle.bus.specs.Refusal.{accepted, badLine}
+use Rattle.bus.specs.State.{chassis, emptyChassis}
+use Rattle.bus.specs.declared.state.Chassis.{Chassis}
 use Rattle.judgement.specs.Table.{eventOf}
 use Rattle.judgement.specs.declared.event.Event.{Event}
 use Rattle.text.specs.declared.frames.Line.{Line}
@@ -13,16 +16,23 @@ use Rattle.text.specs.Digits.{valueOf, numberOf, isDigits}
 use Rattle.text.specs.Newlines.{hasNewline, firstLine}
 
 -- so many digits of a line from a place on
-abbrev pub part : ℕ → ℕ → List ℕ → List ℕ
-part at count line = take count (drop at line)
+abbrev pub digitsFrom : ℕ → ℕ → List ℕ → List ℕ
+digitsFrom at count line = take count (drop at line)
 
--- ---- The event line: kind 2, speaker 2, address 6, datum 4
+-- ---- The event line: the digits of kind, speaker, address and datum
+
+abbrev pub eventWidths : List ℕ
+eventWidths = 2 ∷ 2 ∷ 6 ∷ 4 ∷ []
 
 abbrev pub eventDigits : ℕ
-eventDigits = 14
+eventDigits = total eventWidths
+
+-- the number that the digits of a field write
+abbrev pub eventField : ℕ → List ℕ → ℕ
+eventField n line = numberOf (nthPart n eventWidths line)
 
 abbrev pub eventIn : List ℕ → Event
-eventIn line = eventOf (numberOf (part 0 2 line)) (numberOf (part 2 2 line)) (numberOf (part 4 6 line)) (numberOf (part 10 4 line))
+eventIn line = eventOf (eventField 0 line) (eventField 1 line) (eventField 2 line) (eventField 3 line)
 
 -- What a text begins with: a line with an event, a bad line of so many bytes, or a line that isn't ended yet.
 abbrev pub nextLine : List ℕ → Line
@@ -43,22 +53,29 @@ lineBytes (Frame event) = eventDigits + 1
 lineBytes (Bad size) = size + 1
 lineBytes Unended = 0
 
--- ---- The setup line: fitted set 4, then a digit for each page
+-- ---- The setup line: the digits of the fitted set, then one for each page
+
+abbrev pub setupWidths : List ℕ
+setupWidths = 4 ∷ 16 ∷ []
 
 abbrev pub setupDigits : ℕ
-setupDigits = 20
+setupDigits = total setupWidths
 
 -- the longest right line
 abbrev pub longest : ℕ
 longest = setupDigits
 
 abbrev pub fittedIn : List ℕ → ℕ
-fittedIn line = numberOf (part 0 4 line)
+fittedIn line = numberOf (nthPart 0 setupWidths line)
 
 abbrev pub pagesIn : List ℕ → List ℕ
-pagesIn line = map valueOf (part 4 16 line)
+pagesIn line = map valueOf (nthPart 1 setupWidths line)
+
+-- what setup is given
+abbrev pub chassisIn : List ℕ → Chassis
+chassisIn line = chassis (fittedIn line) (pagesIn line)
 
 abbrev pub setupIn : List ℕ → SetupLine
 setupIn line =
-    cond (isDigits setupDigits line) (record { refusal = accepted; fitted = fittedIn line; pages = pagesIn line })
-    (record { refusal = badLine; fitted = 0; pages = replicate 16 0 })
+    cond (isDigits setupDigits line) (record { refusal = accepted; chassis = chassisIn line })
+    (record { refusal = badLine; chassis = emptyChassis })

@@ -1,8 +1,9 @@
--- Read in this order: digits and numbers; the lines of a text; the two frames; the answer line; a text read line by line.
+-- Read in this order: digits and numbers; the lines of a text; the two frames; the answer line; a text read line by line, and in chunks.
 pub mod Digits
 pub mod Newlines
 pub mod Frames
 pub mod AnswerLine
 pub mod Reading
+pub mod Chunks
 pub mod Promises
 pub mod Examples

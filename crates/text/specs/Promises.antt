@@ -1,18 +1,20 @@
 -- What is promised of digits, lines and frames. The proof of each stands in proofs/ under its name in lower case, with hyphens.
-use Prim.Native.Nat.{ℕ, _+_, _^_, _<_, _≤_}
+use Prim.Native.Nat.{ℕ, _+_, _-_, _^_, _<_, _≤_}
 use mathlib.Core.Path.{_≡_}
 use mathlib.Core.Logic.{_↔_}
 use mathlib.Core.Bool.{true, false}
 use mathlib.Core.List.{List, _∷_, _++_, map}
 use lib.ListN.{length, getD, take}
 use Rattle.bus.specs.Refusal.{accepted, badLine}
+use Rattle.bus.specs.declared.state.Chassis.{Chassis}
 use Rattle.judgement.specs.declared.event.Event.{Event}
 use Rattle.events.specs.declared.answers.Answer.{Answer}
 use Rattle.text.specs.Digits.{isDigit, valueOf, digitOf, numberOf, digitsOf, isDigits}
 use Rattle.text.specs.Newlines.{newline, hasNewline, firstLine, restOf, lastLine, textLines}
-use Rattle.text.specs.Frames.{part, eventDigits, eventIn, nextLine, lineNumber, lineBytes, setupIn, longest}
+use Rattle.text.specs.Frames.{digitsFrom, eventDigits, eventIn, nextLine, lineNumber, lineBytes, setupIn, longest}
 use Rattle.text.specs.AnswerLine.{answerDigits, answerLine, answerLength}
-use Rattle.text.specs.Reading.{answersTo, takenOff, heldOf}
+use Rattle.text.specs.Reading.{Reader, answersTo, takenWithin, takenOff, heldOf}
+use Rattle.text.specs.Chunks.{begunIn, fedAll, wholeText}
 
 -- ---- What a text begins with
 
@@ -52,25 +54,29 @@ abbrev pub EventReadsBack : Type 0
 EventReadsBack = (event : Event) → EventFits event → (isDigits eventDigits (eventLine event) ≡ true) × (eventIn (eventLine event) ≡ event)
 
 -- a setup line as it is written
-abbrev pub setupLine : ℕ → List ℕ → List ℕ
-setupLine fitted pages = digitsOf 4 fitted ++ map digitOf pages
+abbrev pub setupLine : Chassis → List ℕ
+setupLine given = digitsOf 4 (given .fitted) ++ map digitOf (given .pages)
+
+-- what fits its field on a setup line
+pub record ChassisWritten (given : Chassis) : Type 0 where
+  pub fitted : given .fitted < 16 ^ 4
+  pub sixteen : length (given .pages) ≡ 16
+  pub pages : (p : ℕ) → p < length (given .pages) → getD (given .pages) p 0 < 16
 
 abbrev pub SetupReadsBack : Type 0
-SetupReadsBack =
-    (fitted : ℕ) (pages : List ℕ) → fitted < 16 ^ 4 → length pages ≡ 16 → ((p : ℕ) → p < length pages → getD pages p 0 < 16)
-    → setupIn (setupLine fitted pages) ≡ record { refusal = accepted; fitted = fitted; pages = pages }
+SetupReadsBack = (given : Chassis) → ChassisWritten given → setupIn (setupLine given) ≡ record { refusal = accepted; chassis = given }
 
 -- an answer line read again
-abbrev pub answerIn : List ℕ → Answer
-answerIn line = record {
-  refusal = numberOf (part 0 2 line);
-  phase = numberOf (part 2 2 line);
-  granted = numberOf (part 4 2 line);
-  lines = numberOf (part 6 2 line);
-  signals = numberOf (part 8 2 line);
-  status = numberOf (part 10 2 line);
-  cycles = numberOf (part 12 2 line);
-  datum = numberOf (part 14 4 line);
+abbrev pub answerOnLine : List ℕ → Answer
+answerOnLine line = record {
+  refusal = numberOf (digitsFrom 0 2 line);
+  phase = numberOf (digitsFrom 2 2 line);
+  granted = numberOf (digitsFrom 4 2 line);
+  lines = numberOf (digitsFrom 6 2 line);
+  signals = numberOf (digitsFrom 8 2 line);
+  status = numberOf (digitsFrom 10 2 line);
+  cycles = numberOf (digitsFrom 12 2 line);
+  datum = numberOf (digitsFrom 14 4 line);
 }
 
 -- what fits its field on an answer line
@@ -88,7 +94,7 @@ pub record AnswerFits (a : Answer) : Type 0 where
 abbrev pub AnswerReadsBack : Type 0
 AnswerReadsBack =
     (a : Answer)
-    → ((isDigits 18 (answerDigits a) ≡ true) × (length (answerLine a) ≡ answerLength)) × (AnswerFits a → answerIn (answerLine a) ≡ a)
+    → ((isDigits 18 (answerDigits a) ≡ true) × (length (answerLine a) ≡ answerLength)) × (AnswerFits a → answerOnLine (answerLine a) ≡ a)
 
 -- ---- Lines
 
@@ -111,16 +117,36 @@ HeldIsShort = (rest : List ℕ) → hasNewline rest ≡ false → length (heldOf
 
 -- ---- Reading in pieces: of any state, whatever a line says in it and turns it to
 
--- What was said of the lines taken, with what the rest will say, is the whole, also where more text comes.
+-- What was said of the lines taken, with what the rest will say, is the whole, also where more text comes: for any number of lines and any room.
 abbrev pub TakenIsTheWhole : Type 1
 TakenIsTheWhole =
-    (S : Type 0) (says : S → List ℕ → List ℕ) (turns : S → List ℕ → S) (n : ℕ) (s : S) (text more : List ℕ)
-    → answersTo says turns s (textLines (text ++ more))
-    ≡ takenOff says turns n s text .said ++ answersTo says turns (takenOff says turns n s text .state) (textLines (takenOff says turns n s text .rest ++ more))
+    (S : Type 0) (r : Reader S) (n room : ℕ) (s : S) (text more : List ℕ)
+    → answersTo r s (textLines (text ++ more))
+    ≡ takenWithin r n room s text .said
+    ++ answersTo r (takenWithin r n room s text .state) (textLines (takenWithin r n room s text .rest ++ more))
 
--- Where a line goes by its first bytes alone, one more than the longest right line has, what is held says the same as the rest.
+-- Where no line is said more than the most bytes, what is said has room, and no line that has ended is left while another would have room.
+abbrev pub TakenFits : Type 1
+TakenFits =
+    (S : Type 0) (r : Reader S) → ((s : S) (line : List ℕ) → length (r .says s line) ≤ r .most) → (room : ℕ) (s : S) (text : List ℕ)
+    → (length (takenOff r room s text .said) ≤ room)
+    × (r .most ≤ room - length (takenOff r room s text .said) → hasNewline (takenOff r room s text .rest) ≡ false)
+
+-- a line goes by its first bytes alone, one more than the longest right line has
+abbrev pub GoesByFront : {S : Type 0} → Reader S → Type 0
+GoesByFront {S} r =
+    (s : S) (line : List ℕ) → (r .says s (take (1 + longest) line) ≡ r .says s line) × (r .turns s (take (1 + longest) line) ≡ r .turns s line)
+
+-- Where that is so, what is held says the same as the rest,
 abbrev pub HeldIsEnough : Type 1
 HeldIsEnough =
-    (S : Type 0) (says : S → List ℕ → List ℕ) (turns : S → List ℕ → S)
-    → ((s : S) (line : List ℕ) → (says s (take (1 + longest) line) ≡ says s line) × (turns s (take (1 + longest) line) ≡ turns s line))
-    → (s : S) (rest more : List ℕ) → answersTo says turns s (textLines (heldOf rest ++ more)) ≡ answersTo says turns s (textLines (rest ++ more))
+    (S : Type 0) (r : Reader S) → GoesByFront r
+    → (s : S) (rest more : List ℕ) → answersTo r s (textLines (heldOf rest ++ more)) ≡ answersTo r s (textLines (rest ++ more))
+
+-- and however a text is cut into chunks, and whatever room each call has: what was said, with what the held text will say, is what the text says.
+abbrev pub ChunksSayTheSame : Type 1
+ChunksSayTheSame =
+    (S : Type 0) (r : Reader S) → GoesByFront r → (s : S) (calls : List (ℕ × List ℕ))
+    → fedAll r (begunIn s) calls .said
+    ++ answersTo r (fedAll r (begunIn s) calls .state) (textLines (fedAll r (begunIn s) calls .held))
+    ≡ answersTo r s (textLines (wholeText calls))

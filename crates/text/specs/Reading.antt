@@ -1,17 +1,26 @@
--- A text read line by line, the rest of it handed on (01, "The program and one whole run"), whatever the lines mean: `says` is what a line is answered in some state, `turns` is the state that it leads to.
-use Prim.Native.Nat.{ℕ, zero, suc, _+_}
-use mathlib.Core.Bool.{cond}
+-- A text read line by line, the rest of it handed on (01, "The program and one whole run"), whatever the lines mean.
+use Prim.Native.Nat.{ℕ, zero, suc, _+_, _-_}
+use mathlib.Core.Bool.{Bool, cond, _&&_}
 use mathlib.Core.List.{List, [], _∷_, _++_}
+use lib.Dec.{leb}
 use lib.ListN.{length, take}
 use Rattle.text.specs.Newlines.{hasNewline, firstLine, restOf}
 use Rattle.text.specs.Frames.{longest}
 
--- everything that is answered to lines one after another
-unfoldable pub answersTo : {S : Type 0} → (S → List ℕ → List ℕ) → (S → List ℕ → S) → S → List (List ℕ) → List ℕ
-answersTo says turns s [] = []
-answersTo says turns s (line ∷ lines) = says s line ++ answersTo says turns (turns s line) lines
+-- what lines mean: what is said to a line in some state, the state that the line turns it to, and the most bytes that are said to one line
+pub record Reader (S : Type 0) : Type 0 where
+  pub says : S → List ℕ → List ℕ
+  pub turns : S → List ℕ → S
+  pub most : ℕ
 
--- some lines taken off a text: the state after them, what was answered, how many bytes they had, and what follows them
+-- everything that is said to lines one after another
+unfoldable pub answersTo : {S : Type 0} → Reader S → S → List (List ℕ) → List ℕ
+answersTo r s [] = []
+answersTo r s (line ∷ lines) = r .says s line ++ answersTo r (r .turns s line) lines
+
+-- ---- Lines taken off a text
+
+-- some lines taken off a text: the state after them, what was said, how many bytes they had, and what follows them
 pub record Taken (S : Type 0) : Type 0 where
   pub state : S
   pub said : List ℕ
@@ -21,18 +30,46 @@ pub record Taken (S : Type 0) : Type 0 where
 abbrev pub nothingTaken : {S : Type 0} → S → List ℕ → Taken S
 nothingTaken s text = record { state = s; said = []; used = 0; rest = text }
 
--- a line of so many bytes, with its newline, and after it those taken from the rest
-abbrev pub lineTaken : {S : Type 0} → List ℕ → ℕ → Taken S → Taken S
-lineTaken bytes size t = record { state = t .state; said = bytes ++ t .said; used = suc size + t .used; rest = t .rest }
+-- the first line, with its newline
+abbrev pub lineOff : {S : Type 0} → Reader S → S → List ℕ → Taken S
+lineOff r s text = record {
+  state = r .turns s (firstLine text);
+  said = r .says s (firstLine text);
+  used = suc (length (firstLine text));
+  rest = restOf text;
+}
 
--- The lines that a newline ends, but no more than so many; what follows a line is the text of the next.
-unfoldable pub takenOff : {S : Type 0} → (S → List ℕ → List ℕ) → (S → List ℕ → S) → ℕ → S → List ℕ → Taken S
-takenOff says turns zero s text = nothingTaken s text
-takenOff says turns (suc n) s text =
-    cond (hasNewline text)
-    (lineTaken (says s (firstLine text)) (length (firstLine text)) (takenOff says turns n (turns s (firstLine text)) (restOf text)))
+-- that line, where it has ended
+abbrev pub firstTaken : {S : Type 0} → Reader S → S → List ℕ → Taken S
+firstTaken r s text = cond (hasNewline text) (lineOff r s text) (nothingTaken s text)
+
+-- lines, and then those that were taken off what follows them
+abbrev pub andThen : {S : Type 0} → Taken S → Taken S → Taken S
+andThen t later =
+    record { state = later .state; said = t .said ++ later .said; used = t .used + later .used; rest = later .rest }
+
+-- a line is taken where it has ended, and the most bytes have room
+abbrev pub takesLine : {S : Type 0} → Reader S → ℕ → List ℕ → Bool
+takesLine r room text = hasNewline text && leb (r .most) room
+
+-- So many lines at most; what is said to one leaves less room for the next, and what follows it is the text of the next.
+unfoldable pub takenWithin : {S : Type 0} → Reader S → ℕ → ℕ → S → List ℕ → Taken S
+takenWithin r zero room s text = nothingTaken s text
+takenWithin r (suc n) room s text =
+    cond (takesLine r room text)
+    (andThen (lineOff r s text) (takenWithin r n (room - length (r .says s (firstLine text))) (r .turns s (firstLine text)) (restOf text)))
     (nothingTaken s text)
 
--- What is held of a rest until more is read: a line that isn't ended is cut at one byte more than any right line has.
+-- all that are taken with room for so many bytes: no text has more lines than bytes
+abbrev pub takenOff : {S : Type 0} → Reader S → ℕ → S → List ℕ → Taken S
+takenOff r room s text = takenWithin r (length text) room s text
+
+-- ---- What is held
+
+-- the most bytes that are held of a line that isn't ended: one more than any right line has
+abbrev pub mostHeld : ℕ
+mostHeld = suc longest
+
+-- What is held of a rest until more is read.
 abbrev pub heldOf : List ℕ → List ℕ
-heldOf rest = cond (hasNewline rest) rest (take (suc longest) rest)
+heldOf rest = cond (hasNewline rest) rest (take mostHeld rest)

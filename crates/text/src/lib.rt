@@ -1,8 +1,10 @@
 // Text as bytes: the setup line, the event line and the answer line.
-mod frames;
+pub mod answer_line;
+pub mod frames;
 
-pub use frames::ANSWER_LENGTH;
+pub use answer_line::ANSWER_LENGTH;
 pub use frames::EVENT_DIGITS;
+pub use frames::LONGEST;
 pub use frames::Line;
 pub use frames::NEWLINE;
 pub use frames::SETUP_DIGITS;

@@ -188,7 +188,8 @@ least-first test (suc n) zero h = go (test 0) h
     go false l = refl
 least-first test (suc n) (suc k) h = go (test 0) h (least-first (λ k. test (suc k)) n k)
   where
-    go : (b : Bool) → suc k < cond b 0 (suc (leastBelow (λ k. test (suc k)) n)) → (k < leastBelow (λ k. test (suc k)) n → test (suc k) ≡ false) → test (suc k) ≡ false
+    go : (b : Bool) → suc k < cond b 0 (suc (leastBelow (λ k. test (suc k)) n))
+        → (k < leastBelow (λ k. test (suc k)) n → test (suc k) ≡ false) → test (suc k) ≡ false
     go true l first = absurd (not-suc-le-zero l)
     go false l first = first (le-of-suc-le-suc l)
 

@@ -5,3 +5,5 @@ pub mod BitLaws
 pub mod BelowLaws
 pub mod ListLaws
 pub mod FirstLaws
+pub mod RowLaws
+pub mod PartLaws

@@ -13,26 +13,73 @@ Inv-loop input text₀ out₀ memory₀ ports₀ left₀ session₀ held₀ read
 abbrev μ-loop : tie.MeasureT-loop
 μ-loop input text₀ out₀ memory₀ ports₀ left₀ session₀ held₀ reads₀ text out memory ports left session held reads = left
 
+-- ---- Places
+
+-- the text has been filled, and then a turn taken
+abbrev at-fill : tie.After-take-turn Inv-loop μ-loop → tie.After-fill Inv-loop μ-loop
+at-fill c = c .before .before .before .before .before .before .before
+
+abbrev at-loop : tie.After-fill Inv-loop μ-loop → tie.At-loop Inv-loop μ-loop
+at-loop c = c .before .before .before
+
+-- ---- Needs
+
+fresh-requires : tie.Need-fresh-requires Inv-loop μ-loop
+fresh-requires c κs = search needs
+
+loop-holds : tie.Need-loop-holds Inv-loop μ-loop
+loop-holds c = (refl, (refl, (refl, refl)))
+
+fill-requires : tie.Need-fill-requires Inv-loop μ-loop
+fill-requires c κs = search needs
+
+take-turn-requires : tie.Need-take-turn-requires Inv-loop μ-loop
+take-turn-requires c κs = search needs
+
+turns-left-requires : tie.Need-turns-left-requires Inv-loop μ-loop
+turns-left-requires c κs = omega arith
+
+loop-less : tie.Need-loop-less Inv-loop μ-loop
+loop-less c = omega arith
+
+loop-again : tie.Need-loop-again Inv-loop μ-loop
+loop-again c =
+    let turn = c .before .before .before .before .before .before .before .before .before .before in
+    let filled = at-fill turn in
+    let inv = at-loop filled .loop .inv in
+    let kept = turn .take-turn .kept .1 .1 in
+    (kept .0 ∙ filled .fill .kept .1 .0 ∙ inv .0, (kept .1 .0 ∙ inv .1 .0, (kept .1 .1 .0 ∙ inv .1 .1 .0, kept .1 .1 .1 .0 ∙ inv .1 .1 .1)))
+
+same-length : tie.Need-same-length Inv-loop μ-loop
+same-length c = c .before .loop .inv .0
+
+same-length-2 : tie.Need-same-length-2 Inv-loop μ-loop
+same-length-2 c = c .before .loop .inv .1 .0
+
+same-length-3 : tie.Need-same-length-3 Inv-loop μ-loop
+same-length-3 c = c .before .loop .inv .1 .1 .0
+
+same-length-4 : tie.Need-same-length-4 Inv-loop μ-loop
+same-length-4 c = c .before .loop .inv .1 .1 .1
+
+returns : tie.Need-returns Inv-loop μ-loop
+returns c = tt
+
 pub take-turns-spec : {M : Type 1} → statement M
 take-turns-spec =
     tie.close
     (tie.spec
     Inv-loop
     μ-loop
-    (λ c κs. search needs)
-    (λ c. (refl, (refl, (refl, refl))))
-    (λ c κs. search needs)
-    (λ c κs. search needs)
-    (λ c κs. omega arith)
-    (λ c. omega arith)
-    (λ c.
-    let atTakeTurn = c .before .before .before .before .before .before .before .before .before .before in
-    let atLoop = atTakeTurn .before .before .before .before .before .before .before .before .before .before in (
-      atTakeTurn .take-turn .kept .1 .1 .0 ∙ atTakeTurn .before .before .before .before .before .before .before .fill .kept .1 .0 ∙ atLoop .loop .inv .0,
-      (atTakeTurn .take-turn .kept .1 .1 .1 .0 ∙ atLoop .loop .inv .1 .0, (atTakeTurn .take-turn .kept .1 .1 .1 .1 .0 ∙ atLoop .loop .inv .1 .1 .0, atTakeTurn .take-turn .kept .1 .1 .1 .1 .1 .0 ∙ atLoop .loop .inv .1 .1 .1)),
-    ))
-    (λ c. c .before .loop .inv .0)
-    (λ c. c .before .loop .inv .1 .0)
-    (λ c. c .before .loop .inv .1 .1 .0)
-    (λ c. c .before .loop .inv .1 .1 .1)
-    (λ c. tt))
+    fresh-requires
+    loop-holds
+    fill-requires
+    take-turn-requires
+    turns-left-requires
+    loop-less
+    loop-again
+    same-length
+    same-length-2
+    same-length-3
+    same-length-4
+    returns)

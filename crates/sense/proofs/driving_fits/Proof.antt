@@ -12,7 +12,7 @@ use Rattle.words.specs.Below.{allBelow}
 use Rattle.words.proofs.TestLaws.{tests-same}
 use Rattle.words.proofs.BelowLaws.{all-start, all-next, at-bound}
 use Rattle.cards.specs.Cards.{cardIn}
-use Rattle.bus.specs.Sense.{drivingFits}
+use Rattle.bus.proofs.SenseLaws.{levels-fit}
 use Rattle.sense.proofs.driving_fits.Statement.{statement}
 use Rattle.sense.proofs.driving_fits.Tie as tie
 
@@ -32,7 +32,6 @@ abbrev μ-loop : tie.MeasureT-loop
 μ-loop contenders driven fits₀ n₀ fits n = 16 - n
 
 pub driving-fits-spec : {M : Type 1} → statement M
-unfolding drivingFits
 driving-fits-spec =
     tie.close
     (tie.spec
@@ -44,5 +43,10 @@ driving-fits-spec =
     (λ c κs. search needs)
     (λ c. omega arith)
     (λ c. omega arith)
-    (λ c. (omega arith, all-next _ _ (c .before .before .loop .inv .1) (ap (leb _) (c .counted .ensures) ∙ at-most-counted (cardIn (c .before .before .before .args .contenders) (c .before .before .loop .n)) _)))
-    (λ c. at-bound (allBelow _) (c .before .loop .inv .1) (omega arith) (omega arith)))
+    (λ c.
+    let at-loop = c .before .before in
+    let counts = cardIn (at-loop .before .args .contenders) (at-loop .loop .n) in
+    (omega arith, all-next _ _ (at-loop .loop .inv .1) (ap (leb _) (c .counted .ensures) ∙ at-most-counted counts _)))
+    (λ c.
+    at-bound (allBelow _) {m = 16} (c .before .loop .inv .1) (omega arith) (omega arith)
+    ∙ levels-fit (c .before .before .args .contenders) (c .before .before .args .t2) (search needs)))

@@ -1,4 +1,4 @@
--- From what the calls ensure, and from the length of the arrays.
+-- From what the calls ensure; the pages are an array of the right length.
 use borrow.Author.Needs.{needs}
 use Rattle.bus.proofs.SenseLaws.{sense-of-arrays}
 use Rattle.sense.proofs.makes_sense.Statement.{statement}
@@ -8,16 +8,9 @@ pub makes-sense-spec : {M : Type 1} → statement M
 makes-sense-spec =
     tie.close
     (tie.spec
-    (λ c. search needs)
-    (λ c κs. search needs)
     (λ c κs. search needs)
     (λ c κs. search needs)
     (λ c κs. search needs)
     (λ c.
-    rw (
-      c .before .before .before .before .all-at-most .ensures,
-      c .before .before .contention-fits .ensures,
-      c .before .driving-fits .ensures,
-      c .grant-fits .ensures,
-    )
-    (sense-of-arrays (c .before .before .before .before .before .before .before .before .args .bus) (search needs) (search needs))))
+    rw (c .before .codes-known .ensures, c .before .before .chassis .ensures, c .standing-fits .ensures)
+    (sense-of-arrays (c .before .before .before .args .bus) (search needs))))

@@ -1,49 +1,109 @@
 -- By the refusal, with the last line ended.
-use mathlib.Core.Path.{refl, sym, ap, _∙_}
+use mathlib.Core.Path.{_≡_, refl, sym, ap, _∙_}
 use borrow.Author.Needs.{needs}
 use borrow.Author.Tests.{eq-eqb, ne-eqb}
+use Prim.Native.Nat.{ℕ}
+use Rattle.bus.specs.Refusal as Refusal
 use Rattle.session.specs.Feeding.{worldOf, feedRefusal, refusedFed}
-use Rattle.session.proofs.FeedLaws.{sound, ended-within, finished}
+use Rattle.session.proofs.FeedLaws.{call-accepted, ended-within, finished}
 use Rattle.feeding.proofs.feeding.finish.Statement.{statement}
 use Rattle.feeding.proofs.feeding.finish.Tie as tie
+
+-- ---- Places
+
+abbrev start : tie.After-feed-refusal → tie.Start
+start c = c .before .before .before .before .before .before .before .before
+
+-- why the call is refused, if it is
+abbrev refusal : tie.After-feed-refusal → ℕ
+refusal c =
+    let from = start c .args in feedRefusal (from .session .bus) (from .memory .now) (from .ports .now) (from .text .now) (from .held)
+
+not-refused : (c : tie.Then1) → refusal (c .before) ≡ Refusal.accepted
+not-refused c = sym (c .before .feed-refusal .ensures) ∙ c .if1 .taken
+
+-- where the last line is ended
+abbrev at-accepted : tie.After-end-line → tie.Then1
+at-accepted c = c .before .before
+
+abbrev at-ended : tie.After-take-in → tie.After-end-line
+at-ended c = c .before .before .before .before .before .before .before
+
+-- ---- Needs
+
+feed-refusal-requires : tie.Need-feed-refusal-requires
+feed-refusal-requires c κs = search needs
+
+end-line-requires : tie.Need-end-line-requires
+end-line-requires c κs = search needs
+
+take-in-requires : tie.Need-take-in-requires
+take-in-requires c κs =
+    let ended = c .before .before .before .before .before .before in
+    let given = at-accepted ended in
+    let from = start (given .before) .args in
+    let s = call-accepted (from .session .bus) (from .memory .now) (from .ports .now) (from .text .now) (from .held) (not-refused given) in
+    let so = ended .end-line .ensures in
+    (rw (so .0, so .1) (ended-within (from .text .now) (from .held) (s .filled-within)), (s .fit, s .sense))
+
+refused-fed-requires : tie.Need-refused-fed-requires
+refused-fed-requires c κs = search needs
+
+same-length : tie.Need-same-length
+same-length c = search needs
+
+same-length-2 : tie.Need-same-length-2
+same-length-2 c = search needs
+
+same-length-3 : tie.Need-same-length-3
+same-length-3 c = search needs
+
+same-length-4 : tie.Need-same-length-4
+same-length-4 c = search needs
+
+returns : tie.Need-returns
+returns c =
+    let taken = c .before .before .before .before .before .before .before .before in
+    let ended = at-ended taken in
+    let given = at-accepted ended in
+    let from = start (given .before) .args in
+    let so = ended .end-line .ensures in
+    rw (eq-eqb (refusal (given .before)) Refusal.accepted (not-refused given)) (
+    finished (worldOf (from .session) (from .memory .now) (from .ports .now)) (from .text .now) (from .out .now) (from .held) _ _ _ _ _ _ _
+    (so .0) (so .1) (taken .take-in .ensures))
+
+same-length-5 : tie.Need-same-length-5
+same-length-5 c = search needs
+
+same-length-6 : tie.Need-same-length-6
+same-length-6 c = search needs
+
+same-length-7 : tie.Need-same-length-7
+same-length-7 c = search needs
+
+returns-2 : tie.Need-returns-2
+returns-2 c =
+    let asked = c .before .before in
+    let from = start asked .args in
+    rw (ne-eqb (refusal asked) Refusal.accepted (λ e. c .before .if1 .left (asked .feed-refusal .ensures ∙ e))) (
+      c .refused-fed .ensures ∙ ap (λ n. refusedFed n (from .session) (from .held)) (asked .feed-refusal .ensures),
+      (refl, (refl, (refl, refl))),
+    )
 
 pub finish-spec : {M : Type 1} → statement M
 finish-spec =
     tie.close
     (tie.spec
-    (λ c κs. search needs)
-    (λ c κs. search needs)
-    (λ c κs.
-    let start = c .before .before .before .before .before .before .before .before .before .before .before .before .before .before .before .before .before in
-    let held = start .args .held in
-    let text = start .args .text .now in
-    let s = sound (start .args .session .bus) (start .args .memory .now) (start .args .ports .now) text held
-    (sym (c .before .before .before .before .before .before .before .before .before .feed-refusal .ensures) ∙ c .before .before .before .before .before .before .before .before .if1 .taken)
-    in
-    let ended = c .before .before .before .before .before .before .end-line .ensures in
-    (rw (ended .0, ended .1) (ended-within text held (s .filled-within)), (s .fit, s .sense)))
-    (λ c κs. search needs)
-    (λ c. search needs)
-    (λ c. search needs)
-    (λ c. search needs)
-    (λ c. search needs)
-    (λ c.
-    let atEndLine = c .before .before .before .before .before .before .before .before .before .before .before .before .before .before .before in
-    let start = atEndLine .before .before .before .before .before .before .before .before .before .before .before in
-    let held = start .args .held in
-    let memory = start .args .memory .now in
-    let ports = start .args .ports .now in
-    let session = start .args .session in
-    let text = start .args .text .now in
-    rw (eq-eqb (feedRefusal (session .bus) memory ports text held) 0 (sym (atEndLine .before .before .before .feed-refusal .ensures) ∙ atEndLine .before .before .if1 .taken))
-    (finished (worldOf session memory ports) text (start .args .out .now) held _ _ _ _ _ _ _ (atEndLine .end-line .ensures .0) (atEndLine .end-line .ensures .1)
-    (c .before .before .before .before .before .before .before .before .take-in .ensures)))
-    (λ c. search needs)
-    (λ c. search needs)
-    (λ c. search needs)
-    (λ c.
-    let start = c .before .before .before .before .before .before .before .before .before .before in
-    let held = start .args .held in
-    let session = start .args .session in
-    rw (ne-eqb (feedRefusal (session .bus) (start .args .memory .now) (start .args .ports .now) (start .args .text .now) held) 0 (λ e. c .before .if1 .left (c .before .before .feed-refusal .ensures ∙ e)))
-    (c .refused .ensures ∙ ap (λ n. refusedFed n session held) (c .before .before .feed-refusal .ensures), (refl, (refl, (refl, refl))))))
+    feed-refusal-requires
+    end-line-requires
+    take-in-requires
+    refused-fed-requires
+    same-length
+    same-length-2
+    same-length-3
+    same-length-4
+    returns
+    same-length-5
+    same-length-6
+    same-length-7
+    returns-2)

@@ -1,49 +1,141 @@
 -- By what the text begins with.
-use mathlib.Core.Path.{sym, _∙_}
+use mathlib.Core.Path.{_≡_, sym, _∙_}
+use mathlib.Core.List.{List}
+use Prim.Native.Nat.{ℕ}
 use native.Mathlib.Omega.{arith}
 use borrow.Author.Needs.{needs}
-use Rattle.text.proofs.FrameLaws.{spoilt}
+use Rattle.text.specs.Frames.{nextLine}
+use Rattle.text.specs.declared.frames.Line.{Line}
+use Rattle.text.proofs.FrameLaws.{Spoilt, spoilt}
 use Rattle.text.proofs.NewlineLaws.{line-within}
 use Rattle.session.proofs.LineLaws.{frame-taken, bad-taken, none-ended}
 use Rattle.feeding.proofs.taking.take_event.Statement.{statement}
 use Rattle.feeding.proofs.taking.take_event.Tie as tie
 
+-- ---- Places
+
+abbrev start : tie.After-next-line → tie.Start
+start c = c .before .before .before .before .before
+
+-- the line is an event's, and its step has been taken
+abbrev at-step : tie.After-put-answer → tie.After-sound-step
+at-step c = c .before .before .before .before .before .before .before .before
+
+abbrev at-frame : tie.After-sound-step → tie.After-line
+at-frame c = c .before .before .before .before
+
+framed-line : (c : tie.After-line) → Line.Frame (c .line .given .0 .0) ≡ nextLine (start (c .before .before) .args .rest .now)
+framed-line c = sym (c .line .given .1) ∙ c .before .before .next-line .ensures
+
+-- the line is bad
+abbrev at-bad : tie.After-put-answer2 → tie.After-line2
+at-bad c = c .before .before .before .before
+
+spoilt-line : (c : tie.After-line2) → Line.Bad (c .line2 .given .0 .0) ≡ nextLine (start (c .before .before) .args .rest .now)
+spoilt-line c = sym (c .line2 .given .1) ∙ c .before .before .next-line .ensures
+
+-- ---- Needs
+
+next-line-requires : tie.Need-next-line-requires
+next-line-requires c κs = search needs
+
+enum-known-line : tie.Need-enum-known-line
+enum-known-line c = search needs
+
+sound-step-requires : tie.Need-sound-step-requires
+sound-step-requires c κs = search needs
+
+put-answer-requires : tie.Need-put-answer-requires
+put-answer-requires c κs = search needs
+
+told-requires : tie.Need-told-requires
+told-requires c κs = search needs
+
+enum-known-line-2 : tie.Need-enum-known-line-2
+enum-known-line-2 c = search needs
+
+bare-requires : tie.Need-bare-requires
+bare-requires c κs = search needs
+
+put-answer-requires-2 : tie.Need-put-answer-requires-2
+put-answer-requires-2 c κs = search needs
+
+add-told : tie.Need-add-told
+add-told c =
+    let at = at-bad (c .before .before) in
+    let rest = start (at .before .before) .args .rest .now in
+    let bad = spoilt rest _ (spoilt-line at) in
+    record { fits = omega (arith, bad .same, line-within rest (bad .has)) }
+
+told-requires-2 : tie.Need-told-requires-2
+told-requires-2 c κs = search needs
+
+enum-told : tie.Need-enum-told
+enum-told c = search needs
+
+told-requires-3 : tie.Need-told-requires-3
+told-requires-3 c κs = search needs
+
+same-length : tie.Need-same-length
+same-length c = search needs
+
+same-length-2 : tie.Need-same-length-2
+same-length-2 c = search needs
+
+same-length-3 : tie.Need-same-length-3
+same-length-3 c = search needs
+
+returns : tie.Need-returns
+returns c =
+    let put = c .before .before .before in
+    let step = at-step put in
+    let line = at-frame step in
+    let from = start (line .before .before) in
+    rw (c .told .ensures) (
+    frame-taken (from .args .bus) (from .args .memory .now) (from .args .ports .now) (from .args .rest .now) (from .args .out .now)
+    (from .pre .0) _ _ (put .put-answer .ensures .0) _ (framed-line line) (from .pre .1 .0) (from .pre .1 .1) _ _ _
+    (step .sound-step .ensures .0) (step .sound-step .ensures .1 .0) (step .sound-step .ensures .1 .1) (put .put-answer .ensures .1))
+
+same-length-4 : tie.Need-same-length-4
+same-length-4 c = search needs
+
+returns-2 : tie.Need-returns-2
+returns-2 c =
+    let put = c .before .before .before in
+    let line = at-bad put in
+    let from = start (line .before .before) in
+    rw (c .told2 .ensures) (
+    bad-taken (from .args .bus) (from .args .memory .now) (from .args .ports .now) (from .args .rest .now) (from .args .out .now)
+    (from .pre .0) _ _ (put .put-answer2 .ensures .0) _ (spoilt-line line) _ (put .before .before .bare .ensures) (put .put-answer2 .ensures .1))
+
+returns-3 : tie.Need-returns-3
+returns-3 c =
+    let line = c .before in
+    let from = start (line .before .before) in
+    rw (c .told3 .ensures) (
+    none-ended (from .args .bus) (from .args .memory .now) (from .args .ports .now) (from .args .rest .now) (from .args .out .now)
+    (sym (line .enum-told .given .1) ∙ line .before .before .next-line .ensures))
+
 pub take-event-spec : {M : Type 1} → statement M
 take-event-spec =
     tie.close
     (tie.spec
-    (λ c κs. search needs)
-    (λ c. search needs)
-    (λ c κs. search needs)
-    (λ c κs. search needs)
-    (λ c. search needs)
-    (λ c κs. search needs)
-    (λ c κs. search needs)
-    (λ c.
-    let start = c .before .before .before .before .before .before .before .before .before .before .before .before .before in
-    let rest = start .args .rest .now in
-    let bad = spoilt rest _ (sym (c .before .before .before .before .before .before .line2 .given .1) ∙ c .before .before .before .before .before .before .before .before .next-line .ensures)
-    in
-    record { fits = omega (arith, bad .same, line-within rest (bad .has)) })
-    (λ c. search needs)
-    (λ c. search needs)
-    (λ c. search needs)
-    (λ c. search needs)
-    (λ c.
-    let atSoundStep = c .before .before .before .before .before .before .before .before .before .before in
-    let start = atSoundStep .before .before .before .before .before .before .before .before .before .before .before in
-    frame-taken (start .args .bus) (start .args .memory .now) (start .args .ports .now) (start .args .rest .now)
-    (start .args .out .now) _ (sym (atSoundStep .before .before .before .before .line .given .1) ∙ atSoundStep .before .before .before .before .before .before .next-line .ensures)
-    (start .pre .0) (start .pre .1 .0) (start .pre .1 .1) _ _ _ _
-    (atSoundStep .sound-step .ensures .0) (atSoundStep .sound-step .ensures .1 .0) (atSoundStep .sound-step .ensures .1 .1)
-    (c .before .before .put-answer .ensures .1))
-    (λ c. search needs)
-    (λ c.
-    let start = c .before .before .before .before .before .before .before .before .before .before .before .before .before in
-    bad-taken (start .args .bus) (start .args .memory .now) (start .args .ports .now) (start .args .rest .now)
-    (start .args .out .now) _ (sym (c .before .before .before .before .before .before .line2 .given .1) ∙ c .before .before .before .before .before .before .before .before .next-line .ensures)
-    (start .pre .0) _ _ (c .before .before .before .before .bare .ensures) (c .before .before .put-answer2 .ensures .1))
-    (λ c.
-    let start = c .before .before .before .before .before .before .before in
-    none-ended (start .args .bus) (start .args .memory .now) (start .args .ports .now) (start .args .rest .now)
-    (start .args .out .now) (sym (c .enum-told .given .1) ∙ c .before .before .next-line .ensures)))
+    next-line-requires
+    enum-known-line
+    sound-step-requires
+    put-answer-requires
+    told-requires
+    enum-known-line-2
+    bare-requires
+    put-answer-requires-2
+    add-told
+    told-requires-2
+    enum-told
+    told-requires-3
+    same-length
+    same-length-2
+    same-length-3
+    returns
+    same-length-4
+    returns-2
+    returns-3)

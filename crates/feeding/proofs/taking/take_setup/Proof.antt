@@ -1,49 +1,94 @@
--- One line, where it has ended and its answer has room.
+-- One line, where it has ended.
 use mathlib.Core.Path.{sym, ap, _∙_}
 use native.Mathlib.Omega.{arith}
 use borrow.Author.Needs.{needs}
 use lib.ListN.{length}
-use lib.Dec.{ltb, leb}
 use lib.Seq.{length-take-le}
-use borrow.Author.Tests.{ltb-true, leb-true}
-use Rattle.words.proofs.TestLaws.{both-of}
-use Rattle.text.proofs.ReadingLaws.{printed-fits}
 use Rattle.text.specs.AnswerLine.{printed}
-use Rattle.session.proofs.SetupLaws.{setup-taken, setup-not-taken}
+use Rattle.session.specs.declared.state.Stage.the-variants.{Awaiting}
+use Rattle.session.proofs.LineLaws.{setup-taken, not-taken}
 use Rattle.feeding.proofs.taking.take_setup.Statement.{statement}
 use Rattle.feeding.proofs.taking.take_setup.Tie as tie
+
+-- ---- Places
+
+abbrev start : tie.After-line-end → tie.Start
+start c = c .before .before .before
+
+-- the line has ended
+abbrev at-line : tie.After-set-up → tie.Then1
+at-line c = c .before .before
+
+abbrev at-set-up : tie.After-put-answer → tie.After-set-up
+at-set-up c = c .before .before .before
+
+-- ---- Needs
+
+line-end-requires : tie.Need-line-end-requires
+line-end-requires c κs = search needs
+
+slice-aggregate-set-up : tie.Need-slice-aggregate-set-up
+slice-aggregate-set-up c =
+    let line = c .before in
+    sym (length-take-le (line .before .line-end .result) (start (line .before) .args .rest .now) (omega (arith, line .if1 .taken)))
+
+set-up-requires : tie.Need-set-up-requires
+set-up-requires c κs = search needs
+
+setup-answer-requires : tie.Need-setup-answer-requires
+setup-answer-requires c κs = search needs
+
+put-answer-requires : tie.Need-put-answer-requires
+put-answer-requires c κs = search needs
+
+stage-after-requires : tie.Need-stage-after-requires
+stage-after-requires c κs = search needs
+
+add-told : tie.Need-add-told
+add-told c = search needs
+
+told-requires : tie.Need-told-requires
+told-requires c κs = search needs
+
+told-requires-2 : tie.Need-told-requires-2
+told-requires-2 c κs = search needs
+
+same-length : tie.Need-same-length
+same-length c = search needs
+
+returns : tie.Need-returns
+returns c =
+    let put = c .before .before .before .before in
+    let given = at-set-up put in
+    let line = at-line given in
+    let from = start (line .before) in
+    rw (c .told .ensures, c .before .stage-after .ensures) (
+    setup-taken (from .args .bus) (from .args .rest .now) (from .args .out .now) (line .before .line-end .result)
+    (line .before .line-end .ensures) (line .if1 .taken) (from .pre) (given .set-up .result) _ _ (given .set-up .ensures)
+    (put .put-answer .ensures .0)
+    (put .put-answer .ensures .1 ∙ ap (λ a. printed a (from .args .out .now)) (put .before .before .setup-answer .ensures)))
+
+returns-2 : tie.Need-returns-2
+returns-2 c =
+    let line = c .before in
+    let from = start (line .before) in
+    rw (c .told2 .ensures) (
+    not-taken Awaiting (from .args .bus) (from .args .rest .now) (from .args .out .now) (line .before .line-end .result)
+    (line .before .line-end .ensures) (line .if1 .left))
 
 pub take-setup-spec : {M : Type 1} → statement M
 take-setup-spec =
     tie.close
     (tie.spec
-    (λ c κs. search needs)
-    (λ c.
-    let start = c .before .before .before .before .before in
-    let text = start .args .text .now in
-    sym (length-take-le (c .before .before .line-end .result) text (omega (arith, ltb-true (c .before .before .line-end .result) (length text) (both-of (ltb (c .before .before .line-end .result) (length text)) (leb 19 (length (start .args .out .now))) (c .before .if1 .taken) .0)))))
-    (λ c κs. search needs)
-    (λ c κs. search needs)
-    (λ c κs. search needs)
-    (λ c κs. search needs)
-    (λ c.
-    let atLineEnd = c .before .before .before .before .before .before .before .before .before .before in
-    let start = atLineEnd .before .before .before in
-    let text = start .args .text .now in
-    record { fits = omega (arith, ltb-true (atLineEnd .line-end .result) (length text) (both-of (ltb (atLineEnd .line-end .result) (length text)) (leb 19 (length (start .args .out .now))) (c .before .before .before .before .before .before .before .before .before .if1 .taken) .0)) })
-    (λ c. search needs)
-    (λ c.
-    let atPutAnswer = c .before .before .before .before in
-    let atSetUp = atPutAnswer .before .before .before in
-    let atIf1 = atSetUp .before .before in
-    let atLineEnd = atIf1 .before in
-    let start = atLineEnd .before .before .before in
-    let out₁ = start .args .out .now in
-    let text = start .args .text .now in
-    let out = out₁ in
-    let room = leb-true 19 (length out) (both-of (ltb (atLineEnd .line-end .result) (length text)) (leb 19 (length out₁)) (atIf1 .if1 .taken) .1)
-    in
-    rw (c .stage-after .ensures) (setup-taken (start .args .bus) text out (atLineEnd .line-end .result) (atSetUp .set-up .result) (atPutAnswer .put-answer .last .1 .0)
-    (atLineEnd .line-end .ensures) (atIf1 .if1 .taken) (atSetUp .set-up .ensures)
-    (atPutAnswer .put-answer .ensures .1 ∙ ap (λ a. printed a out) (atPutAnswer .before .before .setup-answer .ensures) ∙ printed-fits _ out room)))
-    (λ c. setup-not-taken (c .before .before .before .before .args .bus) (c .before .before .before .before .args .text .now) (c .before .before .before .before .args .out .now) (c .before .line-end .result) (c .before .line-end .ensures) (c .if1 .left)))
+    line-end-requires
+    slice-aggregate-set-up
+    set-up-requires
+    setup-answer-requires
+    put-answer-requires
+    stage-after-requires
+    add-told
+    told-requires
+    told-requires-2
+    same-length
+    returns
+    returns-2)

@@ -14,6 +14,10 @@ put-two-spec =
     (λ c. search needs)
     (λ c κs. search needs)
     (λ c. search needs)
-    (λ c. lt-length-set (c .before .before .before .args .out .now) (c .before .before .before .args .at) (c .before .digit .result) (omega (arith, c .before .before .before .pre)))
+    (λ c.
+    let start = c .before .before .before in
+    lt-length-set (start .args .out .now) (start .args .at) (c .before .digit .result) (omega (arith, start .pre)))
     (λ c. search needs)
-    (λ c. two-put (c .before .before .before .args .out .now) (c .before .before .before .args .at) (c .before .before .before .args .b) (c .before .digit .result) (c .digit2 .result) (c .before .digit .ensures) (c .digit2 .ensures)))
+    (λ c.
+    let given = c .before .before .before .args in
+    two-put (given .out .now) (given .at) (given .b) (c .before .digit .result) (c .digit2 .result) (c .before .digit .ensures) (c .digit2 .ensures)))

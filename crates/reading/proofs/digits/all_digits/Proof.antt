@@ -30,8 +30,12 @@ all-digits-spec =
     (λ c. (omega arith, all-start _))
     (λ c. omega arith)
     (λ c κs. search needs)
-    (λ c. not-all (c .before .before .before .before .before .before .args .line .now) (c .before .before .before .before .loop .i) (omega arith) (sym (c .before .is-digit .ensures) ∙ not-true _ (c .if1 .taken)))
+    (λ c.
+    let at-loop = c .before .before .before .before in
+    not-all (at-loop .before .before .args .line .now) (at-loop .loop .i) (omega arith) (sym (c .before .is-digit .ensures) ∙ not-true _ (c .if1 .taken)))
     (λ c. omega arith)
     (λ c. omega arith)
-    (λ c. (omega arith, all-next _ _ (c .before .before .before .before .loop .inv .1) (sym (not-false _ (c .if1 .left)) ∙ c .before .is-digit .ensures)))
+    (λ c.
+    let at-loop = c .before .before .before .before in
+    (omega arith, all-next _ _ (at-loop .loop .inv .1) (sym (not-false _ (c .if1 .left)) ∙ c .before .is-digit .ensures)))
     (λ c. at-bound (allBelow _) (c .before .loop .inv .1) (omega arith) (omega arith)))

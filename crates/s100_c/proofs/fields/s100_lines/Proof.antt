@@ -13,5 +13,7 @@ s100-lines-spec =
     (λ c κs. search needs)
     (λ c κs. search needs)
     (λ c. search needs)
-    (λ c. field-found (c .before .before .before .before .args .state .now) (c .before .before .if1 .taken) (c .lines .ensures ∙ ap linesOf (c .before .bus-in .ensures)))
+    (λ c.
+    let then = c .before .before in
+    field-found (then .before .before .args .state .now) (then .if1 .taken) (c .lines .ensures ∙ ap linesOf (c .before .bus-in .ensures)))
     (λ c. field-none (c .before .before .args .state .now) _ (c .if1 .left)))

@@ -11,5 +11,7 @@ s100-makes-sense-spec =
     (tie.spec
     (λ c κs. search needs)
     (λ c κs. search needs)
-    (λ c. c .makes-sense .ensures ∙ sense-found (c .before .before .before .before .args .state .now) (c .before .before .if1 .taken) (c .before .bus-in .ensures))
+    (λ c.
+    let then = c .before .before in
+    c .makes-sense .ensures ∙ sense-found (then .before .before .args .state .now) (then .if1 .taken) (c .before .bus-in .ensures))
     (λ c. sense-none (c .before .before .args .state .now) (c .if1 .left)))

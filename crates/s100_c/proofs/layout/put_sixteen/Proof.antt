@@ -16,21 +16,31 @@ Inv-loop bytes₀ at entries i₀ bytes i = (i ≤ 16) × (bytes ≡ sets bytes�
 abbrev μ-loop : tie.MeasureT-loop
 μ-loop bytes₀ at entries i₀ bytes i = 16 - i
 
-pub put-sixteen-spec : {M : Type 1} → statement M
-put-sixteen-spec =
-    tie.close
-    (tie.spec
-    Inv-loop
-    μ-loop
-    (λ c. (omega arith, refl))
-    (λ c. omega arith)
-    (λ c. search needs)
-    (λ c.
-    let given = c .before .before .args in
-    omega (arith, c .before .before .pre, ap length (c .before .loop .inv .1), length-sets (given .bytes .now) (given .at) (take (c .before .loop .i) (given .t3))))
-    (λ c. omega arith)
-    (λ c. omega arith)
-    (λ c.
+loop-holds : tie.Need-loop-holds Inv-loop μ-loop
+loop-holds c = (omega arith, refl)
+
+array-read-bytes : tie.Need-array-read-bytes Inv-loop μ-loop
+array-read-bytes c = omega arith
+
+add-bytes : tie.Need-add-bytes Inv-loop μ-loop
+add-bytes c = search needs
+
+-- the buffer is as long as it was
+long : (at : tie.At-loop Inv-loop μ-loop) → length (at .loop .bytes) ≡ length (at .before .args .bytes .now)
+long at =
+    let given = at .before .args in ap length (at .loop .inv .1) ∙ length-sets (given .bytes .now) (given .at) (take (at .loop .i) (given .t3))
+
+slice-write-bytes : tie.Need-slice-write-bytes Inv-loop μ-loop
+slice-write-bytes c = omega (arith, c .before .before .pre, long (c .before))
+
+add-i : tie.Need-add-i Inv-loop μ-loop
+add-i c = omega arith
+
+loop-less : tie.Need-loop-less Inv-loop μ-loop
+loop-less c = omega arith
+
+loop-again : tie.Need-loop-again Inv-loop μ-loop
+loop-again c =
     let given = c .before .before .args in
     let i = c .before .loop .i in
     let one : i + 1 ≡ suc i = omega arith in
@@ -39,9 +49,30 @@ put-sixteen-spec =
       ap (λ (l : List ℕ). set l (given .at + i) (getD (given .t3) i 0)) (c .before .loop .inv .1)
           ∙ sixteen-next (given .bytes .now) (given .at) i (given .t3) (omega (arith, sixteen))
           ∙ ap (λ (k : ℕ). sets (given .bytes .now) (given .at) (take k (given .t3))) (sym one),
-    ))
-    (λ c. ap length (c .before .loop .inv .1) ∙ length-sets (c .before .before .args .bytes .now) (c .before .before .args .at) (take (c .before .loop .i) (c .before .before .args .t3)))
-    (λ c.
+    )
+
+same-length : tie.Need-same-length Inv-loop μ-loop
+same-length c = long (c .before)
+
+returns : tie.Need-returns Inv-loop μ-loop
+returns c =
     let given = c .before .before .args in
     let sixteen : length (given .t3) ≡ 16 = search needs in
-    c .before .loop .inv .1 ∙ ap (λ (l : List ℕ). sets (given .bytes .now) (given .at) l) (take-all (c .before .loop .i) (given .t3) (omega (arith, sixteen)))))
+    c .before .loop .inv .1
+    ∙ ap (λ (l : List ℕ). sets (given .bytes .now) (given .at) l) (take-all (c .before .loop .i) (given .t3) (omega (arith, sixteen)))
+
+pub put-sixteen-spec : {M : Type 1} → statement M
+put-sixteen-spec =
+    tie.close
+    (tie.spec
+    Inv-loop
+    μ-loop
+    loop-holds
+    array-read-bytes
+    add-bytes
+    slice-write-bytes
+    add-i
+    loop-less
+    loop-again
+    same-length
+    returns)

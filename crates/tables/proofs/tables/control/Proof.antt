@@ -13,5 +13,6 @@ control-spec =
     (λ c κs. search needs)
     (λ c κs. search needs)
     (λ c.
-    record { fits = rw (c .before .strobe-in .ensures, c .hold-acknowledge .ensures) (control-fits (c .before .before .args .phase) (c .before .before .args .kind)) })
+    let args = c .before .before .args in
+    record { fits = rw (c .before .strobe-in .ensures, c .hold-acknowledge .ensures) (control-fits (args .phase) (args .kind)) })
     (λ c. rw (c .before .strobe-in .ensures, c .hold-acknowledge .ensures)))

@@ -1,8 +1,0 @@
--- From what the call ensures.
-use borrow.Author.Needs.{needs}
-use Rattle.events.proofs.answers.answer_with.Statement.{statement}
-use Rattle.events.proofs.answers.answer_with.Tie as tie
-
-pub answer-with-spec : {M : Type 1} → statement M
-answer-with-spec =
-    tie.close (tie.spec (λ c κs. search needs) (λ c. rw (c .lines .ensures)))

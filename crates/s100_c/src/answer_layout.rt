@@ -1,0 +1,38 @@
+// Where each field of an answer stands in a lent buffer. A caller has asked for the length before.
+ghost use mathlib.Core.Path.{_≡_};
+ghost use lib.ListN.{length};
+ghost use Rattle.s100_c.specs.Layout.{answerSize, answerBytes};
+use crate::layout::put_word;
+use events::Answer;
+
+const REFUSAL_AT: usize = 0;
+
+const PHASE_AT: usize = REFUSAL_AT + 1;
+
+const GRANTED_AT: usize = PHASE_AT + 1;
+
+const LINES_AT: usize = GRANTED_AT + 1;
+
+const SIGNALS_AT: usize = LINES_AT + 1;
+
+const STATUS_AT: usize = SIGNALS_AT + 1;
+
+const CYCLES_AT: usize = STATUS_AT + 1;
+
+const DATUM_AT: usize = CYCLES_AT + 1;
+
+pub const ANSWER_SIZE: usize = DATUM_AT + 2;
+
+pub fn put_answer(answer: Answer, bytes: &mut [u8])
+    requires { ⌜ length (now bytes) ≡ answerSize ⌝ }
+    ensures { λ _. ⌜ now (bytes .exit) ≡ answerBytes answer ⌝ }
+{
+    bytes[REFUSAL_AT] = answer.refusal;
+    bytes[PHASE_AT] = answer.phase;
+    bytes[GRANTED_AT] = answer.granted;
+    bytes[LINES_AT] = answer.lines;
+    bytes[SIGNALS_AT] = answer.signals;
+    bytes[STATUS_AT] = answer.status;
+    bytes[CYCLES_AT] = answer.cycles;
+    put_word(bytes, DATUM_AT, answer.datum);
+}
