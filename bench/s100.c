@@ -1,11 +1,22 @@
-/* The text program written plainly in C, to be timed against s100: frames on standard input, an answer line for each on standard output. */
+/* The text program written plainly in C, to be timed against s100: frames on standard input, an answer line for each on standard output.
+
+   Compiled with -DPINS it is to be timed against s100_pins: for each accepted event its pictures of the pins (02, CR 1), and nothing else.
+   That is settled when compiling, so that the answers pay nothing for it. */
 #include <stdint.h>
 #include <stdio.h>
 #include <string.h>
 
+#ifdef PINS
+enum { PRINTS_PICTURES = 1 };
+#else
+enum { PRINTS_PICTURES = 0 };
+#endif
+
 enum { FREE, ARBITRATION, GRANTED, TRANSFER_ONE, OWNED, TRANSFER_TWO };
 
 enum { NOBODY = 0xFF, PERMANENT_MASTER = 0x10 };
+
+enum { SIGNAL_XTRQ = 0x80, STATUS_OUT = 0x08, STATUS_WO = 0x10 };
 
 struct bus {
     uint16_t fitted;
@@ -263,9 +274,10 @@ static int take_number(const char **text, int n, uint32_t *value)
     return 1;
 }
 
+static const char digits[] = "0123456789ABCDEF";
+
 static char *put_byte(char *to, uint8_t byte)
 {
-    static const char digits[] = "0123456789ABCDEF";
     *to++ = digits[byte >> 4];
     *to++ = digits[byte & 15];
     return to;
@@ -287,11 +299,136 @@ static void put_answer(const struct answer *a)
     fwrite(line, 1, sizeof line, stdout);
 }
 
-static void put_refusal(uint8_t number)
+/* A set of pins, or of the lines on them, pin 1 in the top bit. gcc and clang have a type that is wide enough on all 64-bit processors. */
+typedef unsigned __int128 pins;
+
+#define PIN(number) ((pins)1 << (128 - (number)))
+
+/* Which line is on which pin: 003, Appendix B. */
+enum {
+    DMA_0 = 55, DMA_1 = 56, DMA_2 = 57, DMA_3 = 14, HOLD = 74, SIXTN = 60, ADSB = 22, SDSB = 18, DODSB = 23, CDSB = 19,
+    PSYNC = 76, PSTVAL = 25, PDBIN = 78, PWR = 77, PHLDA = 26, MWRT = 68,
+    SMEMR = 47, SM1 = 44, SINP = 46, SOUT = 45, SWO = 97, SXTRQ = 58
+};
+
+/* A table follows the bits of a number, the lowest first: those of the address, of a byte, of the answer's lines, signals and status. */
+static const uint8_t address_pins[24] = {79, 80, 81, 31, 30, 29, 82, 83, 84, 34, 37, 87, 33, 85, 86, 32, 16, 17, 15, 59, 61, 62, 63, 64};
+static const uint8_t data_in_pins[8] = {95, 94, 41, 42, 91, 92, 93, 43};
+static const uint8_t data_out_pins[8] = {36, 35, 88, 89, 38, 39, 40, 90};
+static const uint8_t priority_pins[4] = {DMA_0, DMA_1, DMA_2, DMA_3};
+static const uint8_t signal_pins[8] = {HOLD, PHLDA, ADSB, SDSB, DODSB, CDSB, SIXTN, SXTRQ};
+static const uint8_t status_pins[5] = {SMEMR, SM1, SINP, SOUT, SWO};
+
+#define PULLED_UP \
+    (PIN(DMA_0) | PIN(DMA_1) | PIN(DMA_2) | PIN(DMA_3) | PIN(HOLD) | PIN(SIXTN) | PIN(ADSB) | PIN(SDSB) | PIN(DODSB) | PIN(CDSB))
+#define LOW_WHEN_TRUE (PULLED_UP | PIN(PSTVAL) | PIN(PWR) | PIN(SWO) | PIN(SXTRQ))
+#define ALWAYS_DRIVEN (PULLED_UP | PIN(PSYNC) | PIN(PSTVAL) | PIN(PDBIN) | PIN(PWR) | PIN(PHLDA) | PIN(MWRT))
+
+struct picture {
+    pins true_lines, driven;
+};
+
+static pins pins_of(uint32_t bits, const uint8_t *table, int count)
+{
+    pins set = 0;
+    for (int i = 0; i < count; i++)
+        set |= (pins)(bits >> i & 1) << (128 - table[i]);
+    return set;
+}
+
+/* By bytes, because gcc unrolls a loop over eight pins, but not one over twenty-four. */
+static pins address_of(uint32_t address)
+{
+    return pins_of(address, address_pins, 8) | pins_of(address >> 8, address_pins + 8, 8) | pins_of(address >> 16, address_pins + 16, 8);
+}
+
+static struct picture byte_on(const uint8_t *table, uint8_t byte)
+{
+    return (struct picture){pins_of(byte, table, 8), pins_of(0xFF, table, 8)};
+}
+
+static char *put_digits(char *to, uint64_t bits, int count)
+{
+    for (; count > 0; count--, bits <<= 4)
+        *to++ = digits[bits >> 60];
+    return to;
+}
+
+static char *put_pins(char *to, pins set)
+{
+    to = put_digits(to, (uint64_t)(set >> 64), 16);
+    return put_digits(to, (uint64_t)set, 9);
+}
+
+static void put_picture(struct picture p)
+{
+    char line[51], *to = line;
+    to = put_pins(to, (p.true_lines ^ LOW_WHEN_TRUE) & p.driven);
+    to = put_pins(to, p.driven);
+    *to = '\n';
+    fwrite(line, 1, sizeof line, stdout);
+}
+
+/* The bus outside cycles. Here and in cycles pSYNC and pSTVAL are never true, so no set of true lines has them. */
+static struct picture resting(uint8_t lines, uint8_t signals)
+{
+    return (struct picture){pins_of(lines, priority_pins, 4) | pins_of(signals, signal_pins, 8), ALWAYS_DRIVEN};
+}
+
+/* A cycle while its strobe is true. MWRT follows from pWR and sOUT (01). */
+static void put_cycle(const struct answer *a, uint8_t signals, uint32_t address, struct picture data)
+{
+    struct picture p = resting(a->lines, signals);
+    p.true_lines |= pins_of(a->status, status_pins, 5) | address_of(address) | data.true_lines;
+    p.driven |= pins_of(0x1F, status_pins, 5) | PIN(SXTRQ) | address_of(0xFFFFFF) | data.driven;
+    if (!(a->status & STATUS_WO))
+        p.true_lines |= PIN(PDBIN);
+    else
+        p.true_lines |= a->status & STATUS_OUT ? PIN(PWR) : PIN(PWR) | PIN(MWRT);
+    put_picture(p);
+}
+
+static void put_byte_cycle(const struct answer *a, uint8_t signals, uint32_t address, uint8_t byte)
+{
+    put_cycle(a, signals, address, a->status & STATUS_WO ? byte_on(data_out_pins, byte) : byte_on(data_in_pins, byte));
+}
+
+/* A word on a sixteen-bit page has its even byte on DO and its odd one on DI, whether it is read or written. */
+static void put_word_cycle(const struct answer *a, uint32_t address, uint8_t even, uint8_t odd)
+{
+    struct picture out = byte_on(data_out_pins, even), in = byte_on(data_in_pins, odd);
+    put_cycle(a, a->signals, address, (struct picture){out.true_lines | in.true_lines, out.driven | in.driven});
+}
+
+static void put_pictures(const struct event *e, const struct answer *a)
+{
+    uint8_t even = (uint8_t)(a->datum >> 8), odd = (uint8_t)a->datum;
+    if (a->cycles == 0) {
+        put_picture(resting(a->lines, a->signals));
+    } else if (a->cycles == 2) {
+        put_byte_cycle(a, a->signals, e->address, even);
+        put_byte_cycle(a, a->signals & ~SIGNAL_XTRQ, e->address + 1, odd);
+    } else if (is_word(e)) {
+        put_word_cycle(a, e->address, even, odd);
+    } else {
+        put_byte_cycle(a, a->signals, e->address, odd);
+    }
+}
+
+/* What is printed of a line. Setup lines and bad lines have no event. */
+static void report(const struct event *e, const struct answer *a)
+{
+    if (!PRINTS_PICTURES)
+        put_answer(a);
+    else if (e && a->refusal == 0)
+        put_pictures(e, a);
+}
+
+static void report_refusal(uint8_t number)
 {
     struct answer a = {0};
     a.refusal = number;
-    put_answer(&a);
+    report(NULL, &a);
 }
 
 /* The setup line; whether the run goes on. */
@@ -300,12 +437,12 @@ static int set_up(const char *line, size_t length)
     uint32_t fitted, page;
     uint8_t refusal = 0;
     if (length != 20 || !take_number(&line, 4, &fitted)) {
-        put_refusal(0x0C);
+        report_refusal(0x0C);
         return 0;
     }
     for (int i = 0; i < 16; i++) {
         if (!take_number(&line, 1, &page)) {
-            put_refusal(0x0C);
+            report_refusal(0x0C);
             return 0;
         }
         if (page > 2)
@@ -313,14 +450,14 @@ static int set_up(const char *line, size_t length)
         bus.pages[i] = (uint8_t)page;
     }
     if (refusal) {
-        put_refusal(refusal);
+        report_refusal(refusal);
         return 0;
     }
     bus.fitted = (uint16_t)fitted;
     bus.granted = NOBODY;
     struct answer a = {0};
     show_bus(&a);
-    put_answer(&a);
+    report(NULL, &a);
     return 1;
 }
 
@@ -329,12 +466,12 @@ static void answer_event(const char *line, size_t length)
     uint32_t kind, speaker, address, datum;
     if (length != 14 || !take_number(&line, 2, &kind) || !take_number(&line, 2, &speaker) || !take_number(&line, 6, &address) ||
         !take_number(&line, 4, &datum)) {
-        put_refusal(0x0C);
+        report_refusal(0x0C);
         return;
     }
     struct event e = {(uint8_t)kind, (uint8_t)speaker, address, (uint16_t)datum};
     struct answer a = step(&e);
-    put_answer(&a);
+    report(&e, &a);
 }
 
 int main(void)

@@ -1,5 +1,10 @@
 // The text program written plainly in Rust, to be timed against s100: frames on standard input, an answer line for each on standard output.
+//
+// Compiled with --cfg pins it is to be timed against s100_pins: for each accepted event its pictures of the pins (02, CR 1), and nothing else.
+// That is settled when compiling, so that the answers pay nothing for it.
 use std::io::{self, BufRead, BufWriter, Write};
+
+const PRINTS_PICTURES: bool = cfg!(pins);
 
 const FREE: u8 = 0;
 const ARBITRATION: u8 = 1;
@@ -10,6 +15,10 @@ const TRANSFER_TWO: u8 = 5;
 
 const NOBODY: u8 = 0xFF;
 const PERMANENT_MASTER: u8 = 0x10;
+
+const SIGNAL_XTRQ: u8 = 0x80;
+const STATUS_OUT: u8 = 0x08;
+const STATUS_WO: u8 = 0x10;
 
 const SIGNALS: [u8; 6] = [0x00, 0x01, 0x03, 0x1F, 0x3F, 0x1E];
 const STATUS: [u8; 16] = [0, 0, 0, 0, 0, 0, 0x01, 0x03, 0x10, 0x01, 0x10, 0x04, 0x18, 0, 0, 0];
@@ -287,8 +296,9 @@ fn bare(refusal: u8) -> Answer {
     Answer { refusal, ..Answer::default() }
 }
 
-fn put(out: &mut impl Write, a: &Answer) -> io::Result<()> {
-    const DIGITS: &[u8; 16] = b"0123456789ABCDEF";
+const DIGITS: &[u8; 16] = b"0123456789ABCDEF";
+
+fn put_answer(out: &mut impl Write, a: &Answer) -> io::Result<()> {
     let [high, low] = a.datum.to_be_bytes();
     let mut line = [b'\n'; 19];
     let bytes = [a.refusal, a.phase, a.granted, a.lines, a.signals, a.status, a.cycles, high, low];
@@ -299,22 +309,155 @@ fn put(out: &mut impl Write, a: &Answer) -> io::Result<()> {
     out.write_all(&line)
 }
 
+/// A set of pins, or of the lines on them, pin 1 in the top bit.
+type Pins = u128;
+
+/// Which line is on which pin: 003, Appendix B. A table follows the bits of a number, the lowest first: those of the address, of a byte, of
+/// the answer's lines, signals and status.
+mod pin {
+    pub const ADDRESS: [u8; 24] = [79, 80, 81, 31, 30, 29, 82, 83, 84, 34, 37, 87, 33, 85, 86, 32, 16, 17, 15, 59, 61, 62, 63, 64];
+    pub const DATA_IN: [u8; 8] = [95, 94, 41, 42, 91, 92, 93, 43];
+    pub const DATA_OUT: [u8; 8] = [36, 35, 88, 89, 38, 39, 40, 90];
+    pub const DMA: [u8; 4] = [55, 56, 57, 14];
+    pub const HOLD: u8 = 74;
+    pub const SIXTN: u8 = 60;
+    pub const ADSB: u8 = 22;
+    pub const SDSB: u8 = 18;
+    pub const DODSB: u8 = 23;
+    pub const CDSB: u8 = 19;
+    pub const PSYNC: u8 = 76;
+    pub const PSTVAL: u8 = 25;
+    pub const PDBIN: u8 = 78;
+    pub const PWR: u8 = 77;
+    pub const PHLDA: u8 = 26;
+    pub const MWRT: u8 = 68;
+    pub const SMEMR: u8 = 47;
+    pub const SM1: u8 = 44;
+    pub const SINP: u8 = 46;
+    pub const SOUT: u8 = 45;
+    pub const SWO: u8 = 97;
+    pub const SXTRQ: u8 = 58;
+    pub const SIGNALS: [u8; 8] = [HOLD, PHLDA, ADSB, SDSB, DODSB, CDSB, SIXTN, SXTRQ];
+    pub const STATUS: [u8; 5] = [SMEMR, SM1, SINP, SOUT, SWO];
+}
+
+const fn pins(bits: u32, table: &[u8]) -> Pins {
+    let mut set = 0;
+    let mut i = 0;
+    while i < table.len() {
+        set |= ((bits >> i & 1) as Pins) << (128 - table[i]);
+        i += 1;
+    }
+    set
+}
+
+const fn all(table: &[u8]) -> Pins {
+    pins(u32::MAX, table)
+}
+
+const PULLED_UP: Pins = all(&pin::DMA) | all(&[pin::HOLD, pin::SIXTN, pin::ADSB, pin::SDSB, pin::DODSB, pin::CDSB]);
+const LOW_WHEN_TRUE: Pins = PULLED_UP | all(&[pin::PSTVAL, pin::PWR, pin::SWO, pin::SXTRQ]);
+const ALWAYS_DRIVEN: Pins = PULLED_UP | all(&[pin::PSYNC, pin::PSTVAL, pin::PDBIN, pin::PWR, pin::PHLDA, pin::MWRT]);
+const DRIVEN_IN_CYCLES: Pins = ALWAYS_DRIVEN | all(&pin::STATUS) | all(&[pin::SXTRQ]) | all(&pin::ADDRESS);
+
+struct Picture {
+    true_lines: Pins,
+    driven: Pins,
+}
+
+fn byte_on(table: &[u8; 8], byte: u8) -> Picture {
+    Picture { true_lines: pins(byte.into(), table), driven: all(table) }
+}
+
+fn put_pins(text: &mut [u8], mut set: Pins) {
+    for c in text {
+        *c = DIGITS[(set >> 124) as usize];
+        set <<= 4;
+    }
+}
+
+fn put_picture(out: &mut impl Write, p: &Picture) -> io::Result<()> {
+    let mut line = [b'\n'; 51];
+    put_pins(&mut line[..25], (p.true_lines ^ LOW_WHEN_TRUE) & p.driven);
+    put_pins(&mut line[25..50], p.driven);
+    out.write_all(&line)
+}
+
+/// The bus outside cycles. Here and in cycles pSYNC and pSTVAL are never true, so no set of true lines has them.
+fn resting(lines: u8, signals: u8) -> Picture {
+    Picture { true_lines: pins(lines.into(), &pin::DMA) | pins(signals.into(), &pin::SIGNALS), driven: ALWAYS_DRIVEN }
+}
+
+/// A cycle while its strobe is true. MWRT follows from pWR and sOUT (01).
+fn put_cycle(out: &mut impl Write, a: &Answer, signals: u8, address: usize, data: &Picture) -> io::Result<()> {
+    let mut p = resting(a.lines, signals);
+    p.true_lines |= pins(a.status.into(), &pin::STATUS) | pins(address as u32, &pin::ADDRESS) | data.true_lines;
+    p.driven = DRIVEN_IN_CYCLES | data.driven;
+    p.true_lines |= if a.status & STATUS_WO == 0 {
+        all(&[pin::PDBIN])
+    } else if a.status & STATUS_OUT != 0 {
+        all(&[pin::PWR])
+    } else {
+        all(&[pin::PWR, pin::MWRT])
+    };
+    put_picture(out, &p)
+}
+
+fn put_byte_cycle(out: &mut impl Write, a: &Answer, signals: u8, address: usize, byte: u8) -> io::Result<()> {
+    let data = if a.status & STATUS_WO != 0 { byte_on(&pin::DATA_OUT, byte) } else { byte_on(&pin::DATA_IN, byte) };
+    put_cycle(out, a, signals, address, &data)
+}
+
+/// A word on a sixteen-bit page has its even byte on DO and its odd one on DI, whether it is read or written.
+fn put_word_cycle(out: &mut impl Write, a: &Answer, address: usize, even: u8, odd: u8) -> io::Result<()> {
+    let (high, low) = (byte_on(&pin::DATA_OUT, even), byte_on(&pin::DATA_IN, odd));
+    let data = Picture { true_lines: high.true_lines | low.true_lines, driven: high.driven | low.driven };
+    put_cycle(out, a, a.signals, address, &data)
+}
+
+fn put_pictures(out: &mut impl Write, e: &Event, a: &Answer) -> io::Result<()> {
+    let [even, odd] = a.datum.to_be_bytes();
+    if a.cycles == 0 {
+        put_picture(out, &resting(a.lines, a.signals))
+    } else if a.cycles == 2 {
+        put_byte_cycle(out, a, a.signals, e.address, even)?;
+        put_byte_cycle(out, a, a.signals & !SIGNAL_XTRQ, e.address + 1, odd)
+    } else if e.is_word() {
+        put_word_cycle(out, a, e.address, even, odd)
+    } else {
+        put_byte_cycle(out, a, a.signals, e.address, odd)
+    }
+}
+
+/// Prints what a line calls for. Setup lines and bad lines have no event.
+fn report(out: &mut impl Write, e: Option<&Event>, a: &Answer) -> io::Result<()> {
+    if !PRINTS_PICTURES {
+        return put_answer(out, a);
+    }
+    match e {
+        Some(e) if a.refusal == 0 => put_pictures(out, e, a),
+        _ => Ok(()),
+    }
+}
+
 /// Answers a line; whether the run goes on.
 fn answer(machine: &mut Option<Machine>, line: &[u8], out: &mut impl Write) -> io::Result<bool> {
     match machine {
         Some(m) => {
-            let a = event(line).map_or_else(|| bare(0x0C), |e| m.step(&e));
-            put(out, &a)?;
+            match event(line) {
+                Some(e) => report(out, Some(&e), &m.step(&e))?,
+                None => report(out, None, &bare(0x0C))?,
+            }
             Ok(true)
         }
         None => match set_up(line) {
             Ok(m) => {
-                put(out, &m.show(Answer::default()))?;
+                report(out, None, &m.show(Answer::default()))?;
                 *machine = Some(m);
                 Ok(true)
             }
             Err(number) => {
-                put(out, &bare(number))?;
+                report(out, None, &bare(number))?;
                 Ok(false)
             }
         },

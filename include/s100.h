@@ -28,6 +28,9 @@ extern "C" {
 #define S100_ANSWER_SIZE 9
 #define S100_MEMORY_SIZE 65536
 #define S100_PORTS_SIZE 256
+#define S100_PICTURE_DIGITS 50 /* of a line of a picture, which a newline ends */
+#define S100_PICTURES_SIZE 102 /* two lines with their newlines, the most that an event has */
+#define S100_SEEN_SIZE 3
 
 /* ---- The bytes of a state. A field of two bytes has its high byte first; in a set of cards, card n is the bit of weight 1 << n. Any 38 bytes
  * are a state, though not all of them make sense. */
@@ -84,6 +87,14 @@ extern "C" {
 #define S100_SOUT 0x08
 #define S100_SWO 0x10
 
+/* ---- The bytes of what is read from a picture. */
+
+#define S100_SEEN_PHASE_AT 0   /* 1 byte: the phase that has these signals, or S100_NO_PHASE */
+#define S100_SEEN_SIGNALS_AT 1 /* 1 byte, weighed as in an answer */
+#define S100_SEEN_LINES_AT 2   /* 1 byte: what the priority lines show */
+
+#define S100_NO_PHASE 0xFF
+
 /* ---- Events. Behind each kind stand the fields that it has and the phases in which it can be accepted. A field that it doesn't have must be
  * 0, the speaker too. */
 
@@ -108,7 +119,7 @@ extern "C" {
 #define S100_PERMANENT_MASTER 0x10
 
 /* ---- Answers: 0, or why the call was refused; of several reasons the one with the lowest number. Setup answers 00 or 0B, step 00 to 0A,
- * settle 00, 02, 03 or 05 to 08. (0C is for lines of text, which the library doesn't read.) */
+ * settle 00, 02, 03 or 05 to 08, and the reading of a picture 00 or 0C. */
 
 #define S100_ACCEPTED 0x00
 #define S100_REFUSED_WRONG_BUFFERS 0x01 /* memory or ports of a wrong length */
@@ -122,8 +133,10 @@ extern "C" {
 #define S100_REFUSED_ODD_WORD 0x09      /* a word at an odd address */
 #define S100_REFUSED_ABSENT 0x0A        /* no memory at this address, or no such port */
 #define S100_REFUSED_BAD_PAGE 0x0B      /* a page code that setup doesn't know */
+#define S100_REFUSED_BAD_LINE 0x0C      /* a line that isn't the right number of digits 0 to 9 and A to F */
 
-/* The library's own, which no refusal has and which comes before all of them: a state, pages or an answer's place of a wrong length. */
+/* The library's own, which no refusal has and which comes before all of them: a state, pages, an answer, or a place for what is written, of a
+ * wrong length. */
 #define S100_WRONG_LENGTH 0xFF
 
 /* The library's own for a field of a buffer that isn't as long as a state, or of a page or card above 15. */
@@ -146,6 +159,21 @@ uint8_t s100_step(uint8_t *state, size_t state_length, uint8_t kind, uint8_t spe
  * byte of the state and stores 0. The list may have any length. With a state of a wrong length nothing is written, no number either, and the
  * answer is S100_WRONG_LENGTH. */
 uint8_t s100_settle(uint8_t *state, size_t state_length, const uint8_t *cards, size_t cards_length, size_t *looks);
+
+/* Writes the picture of an accepted event's pins as text: a line, or two for a word that took two cycles, to the front of `lines`, and
+ * returns how many bytes that was: 51 or 102, and 0 behind a refused event, which has no picture. Each line is 25 hexadecimal digits of levels,
+ * pin 1 in the top bit of the first, 25 digits of which pins are driven, and a newline. The event's kind and address and the answer's bytes as
+ * s100_step wrote them say everything. Whatever they are, they have a picture: kinds 06 to 0C are cycles; a word is split if its answer counts
+ * two cycles, and else in one piece; pHLDA and the strobes go by phase and kind, with no strobe but in phases 0, 1 and 4; what else the bus
+ * has goes by the answer's signals, status, priority lines and datum, a byte's datum by its low half. The second line of a split word is at
+ * the odd address of the pair. With an answer of a wrong length, or a place other than S100_PICTURES_SIZE, nothing is written, and
+ * S100_WRONG_LENGTH is returned. */
+uint8_t s100_picture(uint8_t kind, uint32_t address, const uint8_t *answer, size_t answer_length, uint8_t *lines, size_t lines_length);
+
+/* Reads a line of a picture, without its newline: phase, signals and priority lines, by the pins that are driven. Any 50 digits are read; any
+ * other line is refused as S100_REFUSED_BAD_LINE, and then, as with a place of a wrong length, which is S100_WRONG_LENGTH, nothing is
+ * written. */
+uint8_t s100_read_picture(const uint8_t *line, size_t line_length, uint8_t *seen, size_t seen_length);
 
 /* Fields can be read of any state, also of one that makes no sense; where there is no such field it is S100_NO_FIELD. */
 

@@ -1,7 +1,8 @@
 //! The library and the model side by side: the same call is made of each, and everything lent to the two is compared afterwards.
 
 use crate::face::{self, Event, Field, ANSWER_SIZE, MEMORY_SIZE, PHASE_AT, PORTS_SIZE, STATE_SIZE};
-use crate::model;
+use crate::face::{PICTURES_SIZE, PICTURE_DIGITS, SEEN_SIZE};
+use crate::model::{self, Refusal};
 use crate::tally::Tally;
 use std::fmt::Write;
 
@@ -17,6 +18,8 @@ pub enum Call {
     Setup { fitted: u16, pages: Vec<u8> },
     Step(Event),
     Settle { cards: Vec<u8> },
+    Picture { kind: u8, address: u32, answer: Vec<u8> },
+    ReadPicture { line: Vec<u8> },
     Field(Field),
 }
 
@@ -27,9 +30,12 @@ pub struct Lengths {
     pub memory: usize,
     pub ports: usize,
     pub answer: usize,
+    pub lines: usize,
+    pub seen: usize,
 }
 
-pub const RIGHT: Lengths = Lengths { state: STATE_SIZE, memory: MEMORY_SIZE, ports: PORTS_SIZE, answer: ANSWER_SIZE };
+pub const RIGHT: Lengths =
+    Lengths { state: STATE_SIZE, memory: MEMORY_SIZE, ports: PORTS_SIZE, answer: ANSWER_SIZE, lines: PICTURES_SIZE, seen: SEEN_SIZE };
 
 /// Bytes to lend, between margins.
 #[derive(PartialEq)]
@@ -81,14 +87,16 @@ impl Buffer {
     }
 }
 
-/// What one of the two is lent. The list is a setup's pages or a settle's cards, which no call may change; of the three numbers the middle
-/// one is lent for settle's count.
+/// What one of the two is lent. The list is a setup's pages, a settle's cards, the answer of a picture or the line to read, which no call may
+/// change; of the three numbers the middle one is lent for settle's count.
 #[derive(PartialEq)]
 pub struct Side {
     state: Buffer,
     pub memory: Buffer,
     ports: Buffer,
     pub answer: Buffer,
+    pub lines: Buffer,
+    seen: Buffer,
     list: Buffer,
     looks: [usize; 3],
 }
@@ -96,21 +104,33 @@ pub struct Side {
 impl Side {
     fn new() -> Side {
         let (state, memory, ports) = (Buffer::new(STATE_SIZE), Buffer::new(MEMORY_SIZE), Buffer::new(PORTS_SIZE));
-        Side { state, memory, ports, answer: Buffer::new(ANSWER_SIZE), list: Buffer::new(0), looks: [0; 3] }
+        let (answer, lines, seen) = (Buffer::new(ANSWER_SIZE), Buffer::new(PICTURES_SIZE), Buffer::new(SEEN_SIZE));
+        Side { state, memory, ports, answer, lines, seen, list: Buffer::new(0), looks: [0; 3] }
     }
 
     pub fn looks(&self) -> usize {
         self.looks[1]
     }
 
-    /// Fills what the call may or may not write with bytes that it can't know, so that both a write too many and one too few show.
+    /// Fills what the call may or may not write with bytes that it can't know, so that both a write too many and one too few show. A step's
+    /// answer outlasts its pictures.
     fn prepare(&mut self, call: &Call, lent: Lengths, garbage: u64) {
-        self.answer.fill(garbage as u8, lent.answer);
-        self.looks = [garbage as usize; 3];
         match call {
-            Call::Setup { pages: list, .. } | Call::Settle { cards: list } => self.list.hold(list, garbage as u8),
-            Call::Step(_) | Call::Field(_) => self.list.hold(&[], garbage as u8),
+            Call::Picture { .. } => self.lines.fill(garbage as u8, lent.lines),
+            Call::ReadPicture { .. } => self.seen.fill(garbage as u8, lent.seen),
+            _ => {
+                self.answer.fill(garbage as u8, lent.answer);
+                self.looks = [garbage as usize; 3];
+            }
         }
+        let list: &[u8] = match call {
+            Call::Setup { pages, .. } => pages,
+            Call::Settle { cards } => cards,
+            Call::Picture { answer, .. } => answer,
+            Call::ReadPicture { line } => line,
+            Call::Step(_) | Call::Field(_) => &[],
+        };
+        self.list.hold(list, garbage as u8);
     }
 
     fn through_face(&mut self, call: &Call, lent: Lengths) -> u32 {
@@ -122,6 +142,8 @@ impl Side {
                 face::step(state, *event, memory, ports, self.answer.lend(lent.answer)).into()
             }
             Call::Settle { .. } => face::settle(state, self.list.bytes(), &mut self.looks[1]).into(),
+            Call::Picture { kind, address, .. } => face::picture(*kind, *address, self.list.bytes(), self.lines.lend(lent.lines)).into(),
+            Call::ReadPicture { .. } => face::read_picture(self.list.bytes(), self.seen.lend(lent.seen)).into(),
             Call::Field(field) => face::field(*field, state),
         }
     }
@@ -135,17 +157,26 @@ impl Side {
                 model::step(state, *event, memory, ports, self.answer.lend(lent.answer)).into()
             }
             Call::Settle { .. } => model::settle(state, self.list.bytes(), &mut self.looks[1]).into(),
+            Call::Picture { kind, address, .. } => model::picture(*kind, *address, self.list.bytes(), self.lines.lend(lent.lines)).into(),
+            Call::ReadPicture { .. } => model::read_picture(self.list.bytes(), self.seen.lend(lent.seen)).into(),
             Call::Field(field) => model::field(*field, state),
         }
     }
 
-    fn agrees(&self, other: &Side, lent: Lengths) -> bool {
-        self.state.around(lent.state) == other.state.around(lent.state)
-            && self.memory.around(lent.memory) == other.memory.around(lent.memory)
-            && self.ports.around(lent.ports) == other.ports.around(lent.ports)
-            && self.answer.around(lent.answer) == other.answer.around(lent.answer)
-            && self.list == other.list
-            && self.looks == other.looks
+    /// Pictures and readings follow every step, so what they aren't lent is left to the call after them.
+    fn agrees(&self, other: &Side, call: &Call, lent: Lengths) -> bool {
+        let written_alike = match call {
+            Call::Picture { .. } => self.lines.around(lent.lines) == other.lines.around(lent.lines),
+            Call::ReadPicture { .. } => self.seen.around(lent.seen) == other.seen.around(lent.seen),
+            _ => {
+                self.state.around(lent.state) == other.state.around(lent.state)
+                    && self.memory.around(lent.memory) == other.memory.around(lent.memory)
+                    && self.ports.around(lent.ports) == other.ports.around(lent.ports)
+                    && self.answer.around(lent.answer) == other.answer.around(lent.answer)
+                    && self.looks == other.looks
+            }
+        };
+        written_alike && self.list == other.list
     }
 }
 
@@ -156,18 +187,25 @@ struct Made {
     state: State,
 }
 
+#[derive(Default)]
+struct Reading {
+    line: Vec<u8>,
+    seen: [u8; SEEN_SIZE],
+}
+
 pub struct Both {
     pub library: Side,
     model: Side,
     pub tally: Tally,
     pub calls: u64,
     last: Option<Made>,
+    read: Reading,
     seed: u64,
 }
 
 impl Both {
     pub fn new(seed: u64) -> Both {
-        Both { library: Side::new(), model: Side::new(), tally: Tally::new(), calls: 0, last: None, seed }
+        Both { library: Side::new(), model: Side::new(), tally: Tally::new(), calls: 0, last: None, read: Reading::default(), seed }
     }
 
     pub fn state(&self) -> State {
@@ -184,9 +222,22 @@ impl Both {
         self.model.memory.place(at, bytes);
     }
 
-    /// Makes the call of both and returns the number that both returned; the program ends at a difference.
+    /// Makes the call of both and returns the number that both returned; the program ends at a difference. A step is followed by its picture,
+    /// and a picture by the reading of its lines; what is expected afterwards is still said of the call itself.
     pub fn make(&mut self, call: Call, lent: Lengths) -> u32 {
         self.calls += 1;
+        let found = self.compare(call, lent);
+        let made = self.last.take();
+        match made.as_ref().map(|made| &made.call) {
+            Some(Call::Step(event)) => self.show(*event, lent, found == 0),
+            Some(Call::Picture { .. }) => _ = self.read_back(found, lent),
+            _ => {}
+        }
+        self.last = made;
+        found
+    }
+
+    fn compare(&mut self, call: Call, lent: Lengths) -> u32 {
         let state = self.state();
         let garbage = self.calls.wrapping_mul(0x9E37_79B9_7F4A_7C15) >> 7;
         self.library.prepare(&call, lent, garbage);
@@ -194,12 +245,53 @@ impl Both {
         let found = self.library.through_face(&call, lent);
         let expected = self.model.by_model(&call, lent);
         self.tally.note(&call, lent, state[PHASE_AT], found);
-        let agrees = found == expected && self.library.agrees(&self.model, lent);
+        if let (Call::ReadPicture { .. }, 0) = (&call, found) {
+            self.tally.note_seen(self.library.seen.bytes()[0]);
+        }
+        let agrees = found == expected && self.library.agrees(&self.model, &call, lent);
         self.last = Some(Made { call, lent, state });
         if !agrees {
             self.fail("the library and the model differ", &self.difference(found, expected, lent));
         }
         found
+    }
+
+    /// The picture of the step just made, whatever its answer is. 02, CR 1: an accepted one's reads back to what the answer says, and the
+    /// second line of a split word to the same without sXTRQ.
+    fn show(&mut self, event: Event, lent: Lengths, accepted: bool) {
+        let Event { kind, address, .. } = event;
+        let answer = self.library.answer.lend(lent.answer).to_vec();
+        let written = self.compare(Call::Picture { kind, address, answer }, lent);
+        let read = self.read_back(written, lent);
+        if accepted && written != Refusal::WrongLength as u32 {
+            let answer: [u8; ANSWER_SIZE] = self.library.answer.bytes().try_into().expect("a whole answer");
+            let [_, phase, _, lines, signals, _, cycles, ..] = answer;
+            self.tally.note_shown(kind, phase, cycles);
+            self.expect(written == 51 * u32::from(cycles.max(1)), "a picture has a line for each cycle, and one if there is none");
+            for (seen, signals) in read.into_iter().zip([signals, signals & 0x7F]) {
+                self.expect(seen == [phase, signals, lines], "a picture reads back to the answer's phase, signals and lines");
+            }
+        }
+    }
+
+    /// What is read from each line of a picture of so many bytes. A line that was just read isn't read once more: most looks leave the pins as
+    /// they were.
+    fn read_back(&mut self, written: u32, lent: Lengths) -> Vec<[u8; SEEN_SIZE]> {
+        let mut read = Vec::new();
+        if written == Refusal::WrongLength as u32 {
+            return read;
+        }
+        let text = self.library.lines.bytes()[..written as usize].to_vec();
+        for line in text.chunks(PICTURE_DIGITS + 1).map(|ended| &ended[..PICTURE_DIGITS]) {
+            if lent.seen != RIGHT.seen || self.read.line != line {
+                if self.compare(Call::ReadPicture { line: line.to_vec() }, lent) != 0 {
+                    continue;
+                }
+                self.read = Reading { line: line.to_vec(), seen: self.library.seen.bytes().try_into().expect("all that is read") };
+            }
+            read.push(self.read.seen);
+        }
+        read
     }
 
     /// Compares once more, also what lies beyond the margins of the calls so far.
@@ -244,6 +336,8 @@ impl Both {
         for (name, library, model, length) in [
             ("state", &ours.state, &theirs.state, lent.state),
             ("answer", &ours.answer, &theirs.answer, lent.answer),
+            ("lines", &ours.lines, &theirs.lines, lent.lines),
+            ("seen", &ours.seen, &theirs.seen, lent.seen),
             ("list", &ours.list, &theirs.list, theirs.list.right),
         ] {
             _ = writeln!(text, "{name}, between its margins:\n  library {}\n  model   {}", library.shown(length), model.shown(length));
@@ -268,6 +362,8 @@ fn described(call: &Call) -> String {
             format!("step: kind {kind:02X}, speaker {speaker:02X}, address {address:06X}, datum {datum:04X}")
         }
         Call::Settle { cards } => format!("settle: {} cards {}", cards.len(), hex(cards)),
+        Call::Picture { kind, address, answer } => format!("picture: kind {kind:02X}, address {address:06X}, answer {}", hex(answer)),
+        Call::ReadPicture { line } => format!("read_picture: {} bytes {}, \"{}\"", line.len(), hex(line), line.escape_ascii()),
         Call::Field(field) => format!("field: {field:?}"),
     }
 }

@@ -1,4 +1,5 @@
-//! Compares the proved library, called through its C face, with an independent model of the rules in 01, and tells what was reached.
+//! Compares the proved library, called through its C face, with an independent model of the rules in 01 and of the pictures in 02, CR 1, and
+//! tells what was reached.
 //!
 //! Usage: compare [CALLS [SEED]], where CALLS is the least number of random calls. It exits 0 only if the two agreed in everything and
 //! everything was reached that ought to be.
@@ -11,22 +12,30 @@ mod rounds;
 mod tally;
 
 use both::{Both, Call, Lengths, State, RIGHT};
-use draw::Chance;
-use face::{Event, Field, GRANTED_AT, NOBODY, PAGES_AT, PAGES_SIZE, PERMANENT_MASTER, STATE_SIZE};
+use draw::{Chance, DIGITS};
+use face::{Event, Field, ANSWER_SIZE, PICTURES_SIZE, PICTURE_DIGITS, SEEN_SIZE};
+use face::{GRANTED_AT, NOBODY, PAGES_AT, PAGES_SIZE, PERMANENT_MASTER, STATE_SIZE};
 use model::Refusal;
 
 fn setup(chance: &mut Chance) -> Call {
     Call::Setup { fitted: chance.next() as u16, pages: draw::page_codes(chance) }
 }
 
+fn picture(chance: &mut Chance) -> Call {
+    let (any_kind, cycle) = (chance.next() as u8, chance.between(0x06, 0x0C));
+    Call::Picture { kind: chance.pick(&[any_kind, cycle, cycle]), address: draw::memory_address(chance), answer: draw::answer(chance) }
+}
+
 /// A call that has nothing to do with the one before.
 fn single(both: &mut Both, chance: &mut Chance) {
     let state = draw::state(chance);
     both.place(&state);
-    let call = match chance.below(10) {
+    let call = match chance.below(12) {
         0 => setup(chance),
         1 | 2 => Call::Settle { cards: draw::list(chance, &state) },
         3 => Call::Field(draw::field(chance)),
+        4 => picture(chance),
+        5 => Call::ReadPicture { line: draw::line(chance) },
         _ => Call::Step(draw::event(chance, &state)),
     };
     both.make(call, draw::lengths(chance));
@@ -145,6 +154,91 @@ fn wrong_lengths(both: &mut Both, chance: &mut Chance, cases: usize) {
     }
 }
 
+/// Each kind, also where there is no such phase or number of cycles.
+fn kinds_pictured(both: &mut Both, chance: &mut Chance) {
+    for kind in 0..=255 {
+        for phase in [0, 1, 2, 3, 4, 5, 6, 7, 0x80, 0xFF] {
+            for cycles in [0, 1, 2, 3, 0x82, 0xFF] {
+                let (address, answer) = (chance.next() as u32, draw::answer_in(chance, phase, cycles));
+                let written = both.make(Call::Picture { kind, address, answer }, RIGHT);
+                let lines = if cycles == 2 && [0x09, 0x0A].contains(&kind) { 2 } else { 1 };
+                both.expect(written == 51 * lines, "only a word in two cycles has a second line");
+            }
+        }
+    }
+}
+
+fn read(both: &mut Both, line: Vec<u8>) -> u32 {
+    both.make(Call::ReadPicture { line }, RIGHT)
+}
+
+/// Pictures of events in each phase, with one bit after the other turned over: levels of undriven pins, and pins that nobody drives, too.
+fn pins_turned_over(both: &mut Both, chance: &mut Chance, cases: usize) {
+    for case in 0..6 * cases {
+        let state = draw::sensible_in(chance, (case % 6) as u8);
+        both.place(&state);
+        if both.step(draw::next_event(chance, &state)) != 0 {
+            continue;
+        }
+        let printed = both.library.lines.bytes()[..PICTURE_DIGITS].to_vec();
+        for (column, weight) in (0..PICTURE_DIGITS).flat_map(|column| [8, 4, 2, 1].map(|weight| (column, weight))) {
+            let mut line = printed.clone();
+            let digit = char::from(line[column]).to_digit(16).expect("a digit");
+            line[column] = DIGITS[(digit ^ weight) as usize];
+            let number = read(both, line);
+            both.expect(number == 0, "any fifty digits are read");
+        }
+    }
+}
+
+/// Each byte in each column of a line, and lines of other lengths.
+fn bad_lines(both: &mut Both, chance: &mut Chance) {
+    for column in 0..PICTURE_DIGITS {
+        for byte in 0..=255 {
+            let mut line = draw::digits(chance, PICTURE_DIGITS);
+            line[column] = byte;
+            let number = read(both, line);
+            let right = if DIGITS.contains(&byte) { 0 } else { Refusal::BadLine as u32 };
+            both.expect(number == right, "a line is read unless a character isn't one of the sixteen");
+        }
+    }
+    for length in [0, 1, 25, 49, 51, 52, 100, 102, PICTURE_DIGITS + 0x100, PICTURE_DIGITS + 0x1_0000] {
+        let line = draw::digits(chance, length);
+        let number = read(both, line);
+        both.expect(number == Refusal::BadLine as u32, "a line of another length isn't read");
+    }
+    let with_newline = [draw::digits(chance, PICTURE_DIGITS), b"\n".to_vec()].concat();
+    let number = read(both, with_newline);
+    both.expect(number == Refusal::BadLine as u32, "a line is read without its newline");
+}
+
+/// Each buffer of a picture and of its reading alone of a wrong length, which comes before refused events and bad lines. Room for one line is
+/// wrong as well, also where there is no second.
+fn wrong_lengths_of_pictures(both: &mut Both, chance: &mut Chance, cases: usize) {
+    for case in 0..cases {
+        let (kind, address) = (chance.between(0x01, 0x0F), draw::memory_address(chance));
+        let mut answer = draw::answer_in(chance, (case % 6) as u8, 1 + case as u8 % 2);
+        answer[0] = chance.pick(&[0, 0, 0, 0x06]);
+        let picture = |answer: &[u8]| Call::Picture { kind, address, answer: answer.to_vec() };
+        let mut calls = Vec::new();
+        for length in draw::wrong_lengths(ANSWER_SIZE) {
+            let mut cut_or_longer = answer.clone();
+            cut_or_longer.resize(length, 0);
+            calls.push((picture(&cut_or_longer), RIGHT));
+        }
+        for lines in draw::wrong_lengths(PICTURES_SIZE).into_iter().chain([1, PICTURE_DIGITS, PICTURE_DIGITS + 1]) {
+            calls.push((picture(&answer), Lengths { lines, ..RIGHT }));
+        }
+        for seen in draw::wrong_lengths(SEEN_SIZE) {
+            calls.push((Call::ReadPicture { line: draw::line(chance) }, Lengths { seen, ..RIGHT }));
+        }
+        for (call, lent) in calls {
+            let number = both.make(call, lent);
+            both.expect(number == Refusal::WrongLength as u32, "a wrong length is told before all else");
+        }
+    }
+}
+
 /// What a word written and then read leaves and shows, over a page of this code: the bytes, the datum and the cycles.
 fn word_over(both: &mut Both, page: u8, write: Event, before: [u8; 2]) -> ([u8; 2], [u8; 2], u8) {
     let at = write.address as usize;
@@ -221,6 +315,10 @@ fn main() {
     page_codes(&mut both, &mut chance);
     words(&mut both, &mut chance, 5000);
     wrong_lengths(&mut both, &mut chance, 300);
+    kinds_pictured(&mut both, &mut chance);
+    pins_turned_over(&mut both, &mut chance, 30);
+    bad_lines(&mut both, &mut chance);
+    wrong_lengths_of_pictures(&mut both, &mut chance, 60);
     let mut faults = arbitration(&mut both, &mut chance);
     both.end();
 

@@ -1,7 +1,8 @@
-//! Draws from a seeded generator: states that make sense and states that don't, events, settle lists and lengths.
+//! Draws from a seeded generator: states that make sense and states that don't, events, settle lists, answers and lines for pictures, and
+//! lengths.
 
 use crate::both::{Lengths, State, RIGHT};
-use crate::face::{Event, Field, NOBODY, PAGES_SIZE, PERMANENT_MASTER, STATE_SIZE};
+use crate::face::{Event, Field, ANSWER_SIZE, NOBODY, PAGES_SIZE, PERMANENT_MASTER, PICTURE_DIGITS, STATE_SIZE};
 use crate::face::{CONTENDERS_AT, DRIVEN_AT, FITTED_AT, GRANTED_AT, PAGES_AT, PHASE_AT};
 
 /// A splitmix64 generator: every seed, 0 included, gives a full sequence.
@@ -261,7 +262,7 @@ pub fn state(chance: &mut Chance) -> State {
     }
 }
 
-fn memory_address(chance: &mut Chance) -> u32 {
+pub fn memory_address(chance: &mut Chance) -> u32 {
     let any = chance.next() as u32;
     match chance.below(12) {
         0 => chance.pick(&[0, 1, 0xFFE, 0xFFF, 0x1000, 0x1001, 0xFFFE, 0xFFFF]),
@@ -423,6 +424,47 @@ pub fn page_codes(chance: &mut Chance) -> Vec<u8> {
     codes
 }
 
+/// An accepted event's answer in this phase, with so many cycles; no other byte needs to fit.
+pub fn answer_in(chance: &mut Chance, phase: u8, cycles: u8) -> Vec<u8> {
+    let mut answer: Vec<u8> = (0..ANSWER_SIZE).map(|_| chance.next() as u8).collect();
+    (answer[0], answer[1], answer[6]) = (0, phase, cycles);
+    answer
+}
+
+/// An answer for a picture, now and then a refused event's or of a wrong length.
+pub fn answer(chance: &mut Chance) -> Vec<u8> {
+    let (any_phase, any_cycles) = (chance.next() as u8, chance.next() as u8);
+    let (phase, cycles) = (chance.pick(&[any_phase, any_phase % 6]), chance.pick(&[1, 2, any_cycles, any_cycles % 4]));
+    let mut answer = answer_in(chance, phase, cycles);
+    if chance.one_in(8) {
+        answer[0] = chance.next() as u8;
+    }
+    if chance.one_in(8) {
+        answer.resize(wrong_length(chance, ANSWER_SIZE), 0);
+    }
+    answer
+}
+
+pub const DIGITS: &[u8; 16] = b"0123456789ABCDEF";
+
+pub fn digits(chance: &mut Chance, number: usize) -> Vec<u8> {
+    (0..number).map(|_| chance.pick(DIGITS)).collect()
+}
+
+/// A line to read: of any levels, with any pins driven or all of them; now and then with a wrong character or of a wrong length.
+pub fn line(chance: &mut Chance) -> Vec<u8> {
+    let number = if chance.one_in(8) { wrong_length(chance, PICTURE_DIGITS) } else { PICTURE_DIGITS };
+    let mut line = digits(chance, number);
+    if chance.one_in(3) && number == PICTURE_DIGITS {
+        line[PICTURE_DIGITS / 2..].fill(b'F');
+    }
+    if chance.one_in(8) && number > 0 {
+        let any = chance.next() as u8;
+        line[chance.below(number)] = chance.pick(&[any, b'a', b'f', b'G', b'g', b'/', b':', b'@', b' ', b'\n', 0x00, 0xB0, 0xC1, 0xFF]);
+    }
+    line
+}
+
 /// Every field there is, those of a page or a card with this number.
 pub fn fields(number: u8) -> [Field; 8] {
     use Field::*;
@@ -457,7 +499,8 @@ fn wrong_length(chance: &mut Chance, right: usize) -> usize {
 pub fn lengths(chance: &mut Chance) -> Lengths {
     let mut lengths = RIGHT;
     if chance.one_in(12) {
-        for length in [&mut lengths.state, &mut lengths.memory, &mut lengths.ports, &mut lengths.answer] {
+        let Lengths { state, memory, ports, answer, lines, seen } = &mut lengths;
+        for length in [state, memory, ports, answer, lines, seen] {
             if chance.one_in(3) {
                 *length = wrong_length(chance, *length);
             }

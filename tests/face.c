@@ -13,6 +13,8 @@ uint8_t inner_s100_setup(uint16_t fitted, const struct slice *pages, const struc
 uint8_t inner_s100_step(const struct slice *state, uint8_t kind, uint8_t speaker, uint32_t address, uint16_t datum, const struct slice *memory,
                         const struct slice *ports, const struct slice *answer);
 uint8_t inner_s100_settle(const struct slice *state, const struct slice *cards, size_t *looks);
+uint8_t inner_s100_picture(uint8_t kind, uint32_t address, const struct slice *answer, const struct slice *lines);
+uint8_t inner_s100_read_picture(const struct slice *line, const struct slice *seen);
 bool inner_s100_makes_sense(const struct slice *state);
 
 uint8_t s100_setup(uint16_t fitted, const uint8_t *pages, size_t pages_length, uint8_t *state, size_t state_length) {
@@ -26,6 +28,14 @@ uint8_t s100_step(uint8_t *state, size_t state_length, uint8_t kind, uint8_t spe
 
 uint8_t s100_settle(uint8_t *state, size_t state_length, const uint8_t *cards, size_t cards_length, size_t *looks) {
     return inner_s100_settle(SLICE(state), SLICE(cards), looks);
+}
+
+uint8_t s100_picture(uint8_t kind, uint32_t address, const uint8_t *answer, size_t answer_length, uint8_t *lines, size_t lines_length) {
+    return inner_s100_picture(kind, address, SLICE(answer), SLICE(lines));
+}
+
+uint8_t s100_read_picture(const uint8_t *line, size_t line_length, uint8_t *seen, size_t seen_length) {
+    return inner_s100_read_picture(SLICE(line), SLICE(seen));
 }
 
 bool s100_makes_sense(const uint8_t *state, size_t state_length) {

@@ -8,6 +8,9 @@ pub const STATE_SIZE: usize = 38;
 pub const ANSWER_SIZE: usize = 9;
 pub const MEMORY_SIZE: usize = 65536;
 pub const PORTS_SIZE: usize = 256;
+pub const PICTURE_DIGITS: usize = 50;
+pub const PICTURES_SIZE: usize = 102;
+pub const SEEN_SIZE: usize = 3;
 
 pub const FITTED_AT: usize = 0;
 pub const PAGES_AT: usize = 2;
@@ -19,6 +22,7 @@ pub const GRANTED_AT: usize = 37;
 pub const NOBODY: u8 = 0xFF;
 pub const PERMANENT_MASTER: u8 = 0x10;
 pub const NO_FIELD: u32 = 0xFFFF_FFFF;
+pub const NO_PHASE: u8 = 0xFF;
 
 #[derive(Clone, Copy, Debug)]
 pub struct Event {
@@ -59,6 +63,8 @@ mod library {
             answer_length: usize,
         ) -> u8;
         pub fn s100_settle(state: *mut u8, state_length: usize, cards: *const u8, cards_length: usize, looks: *mut usize) -> u8;
+        pub fn s100_picture(kind: u8, address: u32, answer: *const u8, answer_length: usize, lines: *mut u8, lines_length: usize) -> u8;
+        pub fn s100_read_picture(line: *const u8, line_length: usize, seen: *mut u8, seen_length: usize) -> u8;
         pub fn s100_fitted(state: *const u8, state_length: usize) -> u32;
         pub fn s100_page(state: *const u8, state_length: usize, page: u8) -> u32;
         pub fn s100_phase(state: *const u8, state_length: usize) -> u32;
@@ -95,6 +101,14 @@ pub fn step(state: &mut [u8], event: Event, memory: &mut [u8], ports: &mut [u8],
 
 pub fn settle(state: &mut [u8], cards: &[u8], looks: &mut usize) -> u8 {
     unsafe { library::s100_settle(state.as_mut_ptr(), state.len(), cards.as_ptr(), cards.len(), looks) }
+}
+
+pub fn picture(kind: u8, address: u32, answer: &[u8], lines: &mut [u8]) -> u8 {
+    unsafe { library::s100_picture(kind, address, answer.as_ptr(), answer.len(), lines.as_mut_ptr(), lines.len()) }
+}
+
+pub fn read_picture(line: &[u8], seen: &mut [u8]) -> u8 {
+    unsafe { library::s100_read_picture(line.as_ptr(), line.len(), seen.as_mut_ptr(), seen.len()) }
 }
 
 pub fn field(field: Field, state: &[u8]) -> u32 {

@@ -12,6 +12,7 @@ static const struct {
     unsigned long number;
 } numbers[] = {
     NAMED(S100_PAGES_SIZE), NAMED(S100_STATE_SIZE), NAMED(S100_ANSWER_SIZE), NAMED(S100_MEMORY_SIZE), NAMED(S100_PORTS_SIZE),
+    NAMED(S100_PICTURE_DIGITS), NAMED(S100_PICTURES_SIZE), NAMED(S100_SEEN_SIZE),
     NAMED(S100_FITTED_AT), NAMED(S100_PAGES_AT), NAMED(S100_PHASE_AT), NAMED(S100_CONTENDERS_AT), NAMED(S100_DRIVEN_AT),
     NAMED(S100_GRANTED_AT), NAMED(S100_NOBODY),
     NAMED(S100_PAGE_ABSENT), NAMED(S100_PAGE_EIGHT_BIT), NAMED(S100_PAGE_SIXTEEN_BIT),
@@ -22,6 +23,7 @@ static const struct {
     NAMED(S100_HOLD), NAMED(S100_PHLDA), NAMED(S100_ADSB), NAMED(S100_SDSB), NAMED(S100_DODSB), NAMED(S100_CDSB), NAMED(S100_SIXTN),
     NAMED(S100_SXTRQ),
     NAMED(S100_SMEMR), NAMED(S100_SM1), NAMED(S100_SINP), NAMED(S100_SOUT), NAMED(S100_SWO),
+    NAMED(S100_SEEN_PHASE_AT), NAMED(S100_SEEN_SIGNALS_AT), NAMED(S100_SEEN_LINES_AT), NAMED(S100_NO_PHASE),
     NAMED(S100_REQUEST), NAMED(S100_LOOK), NAMED(S100_ACKNOWLEDGE), NAMED(S100_BEGIN_TRANSFER_ONE), NAMED(S100_TAKE_BUS),
     NAMED(S100_BYTE_READ), NAMED(S100_OPCODE_FETCH), NAMED(S100_BYTE_WRITE), NAMED(S100_WORD_READ), NAMED(S100_WORD_WRITE),
     NAMED(S100_INPUT), NAMED(S100_OUTPUT), NAMED(S100_BEGIN_TRANSFER_TWO), NAMED(S100_GIVE_BACK), NAMED(S100_RESET),
@@ -29,7 +31,7 @@ static const struct {
     NAMED(S100_ACCEPTED), NAMED(S100_REFUSED_WRONG_BUFFERS), NAMED(S100_REFUSED_SENSELESS), NAMED(S100_REFUSED_MALFORMED),
     NAMED(S100_REFUSED_NAMES_NOBODY), NAMED(S100_REFUSED_NOT_FITTED), NAMED(S100_REFUSED_WRONG_PHASE), NAMED(S100_REFUSED_NOT_ITS_TURN),
     NAMED(S100_REFUSED_UNSETTLED), NAMED(S100_REFUSED_ODD_WORD), NAMED(S100_REFUSED_ABSENT), NAMED(S100_REFUSED_BAD_PAGE),
-    NAMED(S100_WRONG_LENGTH), NAMED(S100_NO_FIELD),
+    NAMED(S100_REFUSED_BAD_LINE), NAMED(S100_WRONG_LENGTH), NAMED(S100_NO_FIELD),
 };
 
 static uint8_t state[S100_STATE_SIZE], answer[S100_ANSWER_SIZE], memory[S100_MEMORY_SIZE], ports[S100_PORTS_SIZE];
@@ -67,6 +69,22 @@ static void arbitrate(void) {
     print_bytes("state", state, sizeof state);
 }
 
+static void picture(uint8_t kind, uint32_t address) {
+    uint8_t lines[S100_PICTURES_SIZE], seen[S100_SEEN_SIZE] = {0};
+    uint8_t written = s100_picture(kind, address, answer, sizeof answer, lines, sizeof lines);
+    print_number("s100_picture", written);
+    fwrite(lines, 1, written <= sizeof lines ? written : 0, stdout);
+    print_number("s100_read_picture", s100_read_picture(lines, S100_PICTURE_DIGITS, seen, sizeof seen));
+    print_bytes("seen", seen, sizeof seen);
+}
+
+/* The word of before, and one more, which the eight-bit page splits. */
+static void picture_words(void) {
+    picture(S100_WORD_WRITE, 0x1000);
+    step(S100_WORD_WRITE, S100_PERMANENT_MASTER, 0x0FFE, 0xABCD);
+    picture(S100_WORD_WRITE, 0x0FFE);
+}
+
 static void read_fields(void) {
     print_number("s100_fitted", s100_fitted(state, sizeof state));
     print_number("s100_page", s100_page(state, sizeof state, 1));
@@ -83,6 +101,7 @@ int main(void) {
         print_number(numbers[at].name, numbers[at].number);
     }
     arbitrate();
+    picture_words();
     read_fields();
     return 0;
 }

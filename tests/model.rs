@@ -1,11 +1,15 @@
-//! A model of the bus for the comparison to hold the proved library against: its rules are those of 01, its bytes those of include/s100.h.
+//! A model of the bus for the comparison to hold the proved library against: its rules are those of 01, its pictures those of 02, CR 1, with
+//! the pins of 003, Appendix B, and its bytes those of include/s100.h.
 //!
 //! Bytes that make no sense never become a `Bus`, so that its events needn't think of them. The functions at the end take what the C face
 //! takes: any bytes, of any length.
 
 use crate::face::{Event, Field, ANSWER_SIZE, MEMORY_SIZE, NOBODY, NO_FIELD, PAGES_SIZE, PERMANENT_MASTER, PORTS_SIZE, STATE_SIZE};
 use crate::face::{CONTENDERS_AT, DRIVEN_AT, FITTED_AT, GRANTED_AT, PAGES_AT, PHASE_AT};
+use crate::face::{NO_PHASE, PICTURES_SIZE, PICTURE_DIGITS, SEEN_SIZE};
 use std::collections::BTreeSet;
+use std::io::Write;
+use std::sync::LazyLock;
 
 #[derive(Clone, Copy)]
 pub enum Refusal {
@@ -20,6 +24,7 @@ pub enum Refusal {
     OddWord = 0x09,
     Absent = 0x0A,
     BadPage = 0x0B,
+    BadLine = 0x0C,
     WrongLength = 0xFF,
 }
 
@@ -439,6 +444,181 @@ impl Bus {
     }
 }
 
+/// The phases by number, without the cards, which no picture shows.
+static BARE_PHASES: [Phase; 6] = [
+    Phase::Free,
+    Phase::Arbitration(Vec::new()),
+    Phase::Granted(NOBODY),
+    Phase::TransferOne(NOBODY),
+    Phase::Owned(NOBODY),
+    Phase::TransferTwo(NOBODY),
+];
+
+/// The names of pins 1 to 100: 003, Appendix B.
+const PIN_NAMES: &str = "
+    +8 Volt, +16 Volt, XRDY, VI 0*, VI 1*, VI 2*, VI 3*, VI 4*, VI 5*, VI 6*,
+    VI 7*, NMI*, PWRFAIL*, DMA 3*, A 18, A 16, A 17, SDSB*, CDSB*, GROUND,
+    NDEF, ADSB*, DODSB*, PHI, pSTVAL*, pHLDA, RFU, RFU, A 5, A 4,
+    A 3, A 15, A 12, A 9, DO 1, DO 0, A 10, DO 4, DO 5, DO 6,
+    DI 2, DI 3, DI 7, sM1, sOUT, sINP, sMEMR, sHLTA, CLOCK, GROUND,
+    +8 Volt, -16 Volt, GROUND, SLAVE CLR*, DMA 0*, DMA 1*, DMA 2*, sXTRQ*, A 19, SIXTN*,
+    A 20, A 21, A 22, A 23, NDEF, NDEF, PHANTOM*, MWRT, RFU, GROUND,
+    RFU, RDY, INT*, HOLD*, RESET*, pSYNC, pWR*, pDBIN, A 0, A 1,
+    A 2, A 6, A 7, A 8, A 13, A 14, A 11, DO 2, DO 3, DO 7,
+    DI 4, DI 5, DI 6, DI 1, DI 0, sINTA, sWO*, ERROR*, POC*, GROUND
+";
+
+/// A line by the weight of its pin, of which pin 100 has the lowest, and by the star of its name.
+#[derive(Clone, Copy)]
+struct Line {
+    pin: u128,
+    starred: bool,
+}
+
+impl Line {
+    fn named(name: &str) -> Line {
+        let printed = PIN_NAMES.split(',').map(str::trim).zip((0..100).rev());
+        let found: Vec<(&str, i32)> = printed.filter(|(printed, _)| printed.trim_end_matches('*') == name).collect();
+        let [(printed, place)] = found[..] else { panic!("{name} is the name of {} pins", found.len()) };
+        Line { pin: 1 << place, starred: printed.ends_with('*') }
+    }
+
+    /// A line for each bit, the lowest first.
+    fn numbered<const COUNT: usize>(name: &str) -> [Line; COUNT] {
+        std::array::from_fn(|bit| Line::named(&format!("{name} {bit}")))
+    }
+}
+
+/// The lines that the model has. Of signals and status the lowest weight is first, as with numbers: 01, "The program and one whole run".
+struct Wires {
+    signals: [Line; 8],
+    status: [Line; 5],
+    priority: [Line; 4],
+    address: [Line; 24],
+    data_out: [Line; 8],
+    data_in: [Line; 8],
+    sync: Line,
+    status_valid: Line,
+    data_bus_in: Line,
+    write: Line,
+    memory_write: Line,
+}
+
+static WIRES: LazyLock<Wires> = LazyLock::new(|| Wires {
+    signals: ["HOLD", "pHLDA", "ADSB", "SDSB", "DODSB", "CDSB", "SIXTN", "sXTRQ"].map(Line::named),
+    status: ["sMEMR", "sM1", "sINP", "sOUT", "sWO"].map(Line::named),
+    priority: Line::numbered("DMA"),
+    address: Line::numbered("A"),
+    data_out: Line::numbered("DO"),
+    data_in: Line::numbered("DI"),
+    sync: Line::named("pSYNC"),
+    status_valid: Line::named("pSTVAL"),
+    data_bus_in: Line::named("pDBIN"),
+    write: Line::named("pWR"),
+    memory_write: Line::named("MWRT"),
+});
+
+/// A cycle as its pins show it; data lines that carry nothing aren't driven.
+struct Cycle {
+    address: u32,
+    writes: bool,
+    ends_split_word: bool,
+    data_out: Option<u8>,
+    data_in: Option<u8>,
+}
+
+impl Cycle {
+    fn byte(writes: bool, address: u32, byte: u8) -> Cycle {
+        let (data_out, data_in) = if writes { (Some(byte), None) } else { (None, Some(byte)) };
+        Cycle { address, writes, ends_split_word: false, data_out, data_in }
+    }
+
+    /// The cycles of which an event has pictures, where `None` is the bus without one.
+    fn pictured(kind: u8, address: u32, answer: [u8; ANSWER_SIZE]) -> Vec<Option<Cycle>> {
+        let [.., cycles, even, odd] = answer;
+        let writes = matches!(kind, 0x08 | 0x0A | 0x0C);
+        let byte = Cycle::byte(writes, address, odd);
+        match kind {
+            0x09 | 0x0A if cycles == 2 => {
+                let second = Cycle { ends_split_word: true, ..Cycle::byte(writes, address | 1, odd) };
+                vec![Some(Cycle::byte(writes, address, even)), Some(second)]
+            }
+            0x09 | 0x0A => vec![Some(Cycle { data_out: Some(even), data_in: Some(odd), ..byte })],
+            0x06..=0x0C => vec![Some(byte)],
+            _ => vec![None],
+        }
+    }
+}
+
+/// The pins by weight: which are high, and which are driven.
+#[derive(Default)]
+struct Pins {
+    high: u128,
+    driven: u128,
+}
+
+impl Pins {
+    fn drive(&mut self, line: Line, truth: bool) {
+        self.driven |= line.pin;
+        if truth != line.starred {
+            self.high |= line.pin;
+        }
+    }
+
+    fn drive_bits(&mut self, lines: &[Line], number: u32) {
+        for (bit, line) in lines.iter().enumerate() {
+            self.drive(*line, number >> bit & 1 == 1);
+        }
+    }
+
+    /// An undriven line isn't true, whatever its level.
+    fn shows(&self, line: Line) -> bool {
+        self.driven & line.pin != 0 && (self.high & line.pin != 0) != line.starred
+    }
+
+    fn shown_bits(&self, lines: &[Line]) -> u8 {
+        lines.iter().enumerate().filter(|(_, line)| self.shows(**line)).map(|(bit, _)| 1 << bit).sum()
+    }
+
+    /// 02, CR 1: first what is pulled up, then the control outputs and MWRT, then what only a cycle drives.
+    fn of(answer: [u8; ANSWER_SIZE], cycle: Option<&Cycle>) -> Pins {
+        let [_, phase, _, lines, signals, status, ..] = answer;
+        let phase = BARE_PHASES.get(usize::from(phase));
+        let held = phase.map_or(0, |phase| phase.signals() & signal::PHLDA);
+        let signals = signals & !signal::PHLDA | held;
+        let mut pins = Pins::default();
+        pins.drive_bits(&WIRES.signals[..7], signals.into());
+        pins.drive_bits(&WIRES.priority, lines.into());
+
+        let strobed = cycle.filter(|_| matches!(phase, Some(Phase::Free | Phase::Arbitration(_) | Phase::Owned(_))));
+        let writes = strobed.is_some_and(|cycle| cycle.writes);
+        pins.drive(WIRES.sync, false);
+        pins.drive(WIRES.status_valid, false);
+        pins.drive(WIRES.data_bus_in, strobed.is_some_and(|cycle| !cycle.writes));
+        pins.drive(WIRES.write, writes);
+        pins.drive(WIRES.memory_write, writes && status & status::OUT == 0);
+
+        if let Some(cycle) = cycle {
+            pins.drive_bits(&WIRES.address, cycle.address);
+            pins.drive_bits(&WIRES.status, status.into());
+            pins.drive(WIRES.signals[7], signals & signal::SXTRQ != 0 && !cycle.ends_split_word);
+            for (lines, byte) in [(&WIRES.data_out, cycle.data_out), (&WIRES.data_in, cycle.data_in)] {
+                if let Some(byte) = byte {
+                    pins.drive_bits(lines, byte.into());
+                }
+            }
+        }
+        pins
+    }
+
+    fn from_line(line: &[u8]) -> Option<Pins> {
+        let is_digit = |byte: &u8| matches!(byte, b'0'..=b'9' | b'A'..=b'F');
+        let digits = std::str::from_utf8(line).ok().filter(|_| line.len() == PICTURE_DIGITS && line.iter().all(is_digit))?;
+        let [high, driven] = [&digits[..25], &digits[25..]].map(|half| u128::from_str_radix(half, 16).expect("25 digits"));
+        Some(Pins { high, driven })
+    }
+}
+
 fn in_set(state: &[u8], at: usize, card: u8) -> bool {
     let (high, low) = (state[at], state[at + 1]);
     if card < 8 {
@@ -515,6 +695,31 @@ pub fn settle(state: &mut [u8], cards: &[u8], looks: &mut usize) -> u8 {
         }
         Err(refusal) => refusal as u8,
     }
+}
+
+pub fn picture(kind: u8, address: u32, answer: &[u8], lines: &mut [u8]) -> u8 {
+    let (Ok(answer), PICTURES_SIZE) = (<[u8; ANSWER_SIZE]>::try_from(answer), lines.len()) else { return Refusal::WrongLength as u8 };
+    if answer[0] != 0 {
+        return 0;
+    }
+    let mut room = lines;
+    for cycle in Cycle::pictured(kind, address, answer) {
+        let Pins { high, driven } = Pins::of(answer, cycle.as_ref());
+        writeln!(room, "{high:025X}{driven:025X}").expect("room for two lines");
+    }
+    (PICTURES_SIZE - room.len()) as u8
+}
+
+pub fn read_picture(line: &[u8], seen: &mut [u8]) -> u8 {
+    if seen.len() != SEEN_SIZE {
+        return Refusal::WrongLength as u8;
+    }
+    let Some(pins) = Pins::from_line(line) else { return Refusal::BadLine as u8 };
+    let signals = pins.shown_bits(&WIRES.signals);
+    let by_phase = signals & !(signal::SIXTN + signal::SXTRQ);
+    let phase = BARE_PHASES.iter().find(|phase| phase.signals() == by_phase).map_or(NO_PHASE, Phase::number);
+    seen.copy_from_slice(&[phase, signals, pins.shown_bits(&WIRES.priority)]);
+    0
 }
 
 pub fn field(field: Field, state: &[u8]) -> u32 {

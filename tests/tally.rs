@@ -1,15 +1,20 @@
-//! Counts of what the comparison reached: the numbers returned, the accepted kinds in each phase, the fields and the wrong lengths.
+//! Counts of what the comparison reached: the numbers returned, the accepted kinds in each phase, the fields, the pictures in each phase and
+//! the wrong lengths.
 
 use crate::both::{Call, Lengths, RIGHT};
-use crate::face::{Field, NO_FIELD, PAGES_SIZE};
+use crate::face::{Field, ANSWER_SIZE, NO_FIELD, PAGES_SIZE};
 
 pub struct Tally {
     setup: [u64; 256],
     step: [u64; 256],
     settle: [u64; 256],
+    picture: [u64; 256],
+    read_picture: [u64; 256],
     accepted: [[u64; 6]; 16],
     fields: [FieldCalls; 8],
-    wrong: [u64; 7],
+    shown: [[u64; 6]; 10],
+    seen: [u64; 256],
+    wrong: [u64; 10],
 }
 
 #[derive(Clone, Copy, Default)]
@@ -33,19 +38,67 @@ fn place_of(field: Field) -> usize {
     }
 }
 
-const WRONG: [&str; 7] =
-    ["setup's pages", "setup's state", "step's state", "step's answer", "step's memory", "step's ports", "settle's state"];
+const CYCLES_IN: &[usize] = &[0, 1, 4];
+
+/// What the picture of an accepted event can show, and in which phases: 01, "Events".
+const SHOWN: [(&str, &[usize]); 10] = [
+    ("no cycle", &[0, 1, 2, 3, 4, 5]),
+    ("byte read", CYCLES_IN),
+    ("opcode fetch", CYCLES_IN),
+    ("byte write", CYCLES_IN),
+    ("word read in one cycle", CYCLES_IN),
+    ("split word read", CYCLES_IN),
+    ("word write in one cycle", CYCLES_IN),
+    ("split word write", CYCLES_IN),
+    ("input", CYCLES_IN),
+    ("output", CYCLES_IN),
+];
+
+/// In the order of `SHOWN`.
+fn place_of_shown(kind: u8, cycles: u8) -> usize {
+    match (kind, cycles) {
+        (0x06, _) => 1,
+        (0x07, _) => 2,
+        (0x08, _) => 3,
+        (0x09, 1) => 4,
+        (0x09, _) => 5,
+        (0x0A, 1) => 6,
+        (0x0A, _) => 7,
+        (0x0B, _) => 8,
+        (0x0C, _) => 9,
+        _ => 0,
+    }
+}
+
+const WRONG: [&str; 10] = [
+    "setup's pages",
+    "setup's state",
+    "step's state",
+    "step's answer",
+    "step's memory",
+    "step's ports",
+    "settle's state",
+    "picture's answer",
+    "picture's lines",
+    "read_picture's seen",
+];
 
 /// In the order of `WRONG`.
-fn wrong_lengths(call: &Call, lent: Lengths) -> [bool; 7] {
+fn wrong_lengths(call: &Call, lent: Lengths) -> [bool; 10] {
+    let mut wrong = [false; 10];
     let state = lent.state != RIGHT.state;
-    let (answer, memory, ports) = (lent.answer != RIGHT.answer, lent.memory != RIGHT.memory, lent.ports != RIGHT.ports);
     match call {
-        Call::Setup { pages, .. } => [pages.len() != PAGES_SIZE, state, false, false, false, false, false],
-        Call::Step(_) => [false, false, state, answer, memory, ports, false],
-        Call::Settle { .. } => [false, false, false, false, false, false, state],
-        Call::Field(_) => [false; 7],
+        Call::Setup { pages, .. } => (wrong[0], wrong[1]) = (pages.len() != PAGES_SIZE, state),
+        Call::Step(_) => {
+            (wrong[2], wrong[3]) = (state, lent.answer != RIGHT.answer);
+            (wrong[4], wrong[5]) = (lent.memory != RIGHT.memory, lent.ports != RIGHT.ports);
+        }
+        Call::Settle { .. } => wrong[6] = state,
+        Call::Picture { answer, .. } => (wrong[7], wrong[8]) = (answer.len() != ANSWER_SIZE, lent.lines != RIGHT.lines),
+        Call::ReadPicture { .. } => wrong[9] = lent.seen != RIGHT.seen,
+        Call::Field(_) => {}
     }
+    wrong
 }
 
 /// The phases in which the event table takes a kind: 01, "Events".
@@ -66,11 +119,17 @@ fn is_allowed(kind: usize, phase: usize) -> bool {
 const SETUP_ANSWERS: [usize; 3] = [0x00, 0x0B, 0xFF];
 const STEP_ANSWERS: [usize; 12] = [0x00, 0x01, 0x02, 0x03, 0x04, 0x05, 0x06, 0x07, 0x08, 0x09, 0x0A, 0xFF];
 const SETTLE_ANSWERS: [usize; 8] = [0x00, 0x02, 0x03, 0x05, 0x06, 0x07, 0x08, 0xFF];
+const PICTURE_ANSWERS: [usize; 4] = [0, 51, 102, 0xFF];
+const READ_PICTURE_ANSWERS: [usize; 3] = [0x00, 0x0C, 0xFF];
+
+/// What is read as a phase: 01's six, or that there is none.
+const SEEN_PHASES: [usize; 7] = [0, 1, 2, 3, 4, 5, 0xFF];
 
 impl Tally {
     pub fn new() -> Tally {
-        let (setup, step, settle, accepted) = ([0; 256], [0; 256], [0; 256], [[0; 6]; 16]);
-        Tally { setup, step, settle, accepted, fields: [FieldCalls::default(); 8], wrong: [0; 7] }
+        let (setup, step, settle, picture, read_picture) = ([0; 256], [0; 256], [0; 256], [0; 256], [0; 256]);
+        let (accepted, fields, shown) = ([[0; 6]; 16], [FieldCalls::default(); 8], [[0; 6]; 10]);
+        Tally { setup, step, settle, picture, read_picture, accepted, fields, shown, seen: [0; 256], wrong: [0; 10] }
     }
 
     pub fn note(&mut self, call: &Call, lent: Lengths, phase_before: u8, returned: u32) {
@@ -78,6 +137,8 @@ impl Tally {
         match call {
             Call::Setup { .. } => self.setup[number] += 1,
             Call::Settle { .. } => self.settle[number] += 1,
+            Call::Picture { .. } => self.picture[number] += 1,
+            Call::ReadPicture { .. } => self.read_picture[number] += 1,
             Call::Field(field) => {
                 let calls = &mut self.fields[place_of(*field)];
                 calls.made += 1;
@@ -94,25 +155,47 @@ impl Tally {
     }
 
     /// A wrong length beside another isn't counted, since then either may be the reason for the answer.
-    fn note_lengths(&mut self, wrong: [bool; 7]) {
-        if let [at] = (0..7).filter(|at| wrong[*at]).collect::<Vec<usize>>()[..] {
+    fn note_lengths(&mut self, wrong: [bool; 10]) {
+        if let [at] = (0..10).filter(|at| wrong[*at]).collect::<Vec<usize>>()[..] {
             self.wrong[at] += 1;
         }
     }
 
-    fn calls(&self) -> [(&'static str, &[u64; 256], &'static [usize]); 3] {
-        [("setup", &self.setup, &SETUP_ANSWERS), ("step", &self.step, &STEP_ANSWERS), ("settle", &self.settle, &SETTLE_ANSWERS)]
+    /// The picture that followed an accepted step.
+    pub fn note_shown(&mut self, kind: u8, phase: u8, cycles: u8) {
+        self.shown[place_of_shown(kind, cycles)][usize::from(phase)] += 1;
+    }
+
+    pub fn note_seen(&mut self, phase: u8) {
+        self.seen[usize::from(phase)] += 1;
+    }
+
+    /// Counts by number, with the numbers that there can be.
+    fn by_number(&self) -> [(&'static str, &[u64; 256], &'static [usize]); 6] {
+        [
+            ("setup, by number returned", &self.setup, &SETUP_ANSWERS),
+            ("step, by number returned", &self.step, &STEP_ANSWERS),
+            ("settle, by number returned", &self.settle, &SETTLE_ANSWERS),
+            ("picture, by number returned", &self.picture, &PICTURE_ANSWERS),
+            ("read_picture, by number returned", &self.read_picture, &READ_PICTURE_ANSWERS),
+            ("pictures read, by phase", &self.seen, &SEEN_PHASES),
+        ]
     }
 
     pub fn print(&self) {
-        for (name, counts, answers) in self.calls() {
-            println!("{name}, by number returned:");
+        for (name, counts, answers) in self.by_number() {
+            println!("{name}:");
             let shown = answers.iter().map(|number| format!("{number:02X}: {}", counts[*number]));
             println!("  {}", shown.collect::<Vec<String>>().join(", "));
         }
         println!("field calls, and those among them that answered NO_FIELD or, of makes_sense, false:");
         for (name, calls) in FIELDS.iter().zip(self.fields) {
             println!("  {name}: {}, {}", calls.made, calls.without_field);
+        }
+        println!("pictures of accepted events, by what they show and the phase:");
+        for ((name, phases), counts) in SHOWN.iter().zip(self.shown) {
+            let shown = phases.iter().map(|phase| format!("phase {phase}: {}", counts[*phase]));
+            println!("  {name}: {}", shown.collect::<Vec<String>>().join(", "));
         }
         println!("calls with one wrong length, by whose it was:");
         let shown = WRONG.iter().zip(self.wrong).map(|(name, count)| format!("{name}: {count}"));
@@ -128,9 +211,13 @@ impl Tally {
     /// What ought to have been reached and wasn't, and what was reached and can't be.
     pub fn faults(&self) -> Vec<String> {
         let mut faults = Vec::new();
-        for (name, counts, answers) in self.calls() {
+        for (name, counts, answers) in self.by_number() {
             let wrong = (0..256).filter(|number| answers.contains(number) != (counts[*number] > 0));
-            faults.extend(wrong.map(|number| format!("{name} returned {number:02X} {} times", counts[number])));
+            faults.extend(wrong.map(|number| format!("{name}: {number:02X} {} times", counts[number])));
+        }
+        for ((name, phases), counts) in SHOWN.iter().zip(self.shown) {
+            let wrong = (0..6).filter(|phase| phases.contains(phase) != (counts[*phase] > 0));
+            faults.extend(wrong.map(|phase| format!("pictures of {name} in phase {phase}: {}", counts[phase])));
         }
         for kind in 0..16 {
             let wrong = (0..6).filter(|phase| is_allowed(kind, *phase) != (self.accepted[kind][*phase] > 0));

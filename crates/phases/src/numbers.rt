@@ -87,6 +87,10 @@ pub const S_OUT: u8 = 0x08;
 pub const S_WO: u8 = 0x10;
 
 // Control outputs, in a byte of their own, where pHLDA keeps its weight.
+pub const P_SYNC: u8 = 0x01;
+
+pub const P_STVAL: u8 = 0x04;
+
 pub const P_DBIN: u8 = 0x08;
 
 pub const P_WR: u8 = 0x10;

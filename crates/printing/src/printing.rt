@@ -28,7 +28,7 @@ pub fn put_answer(answer: Answer, out: &mut [u8]) -> usize
 }
 
 // The letters come 7 bytes after the digit 9.
-fn digit(n: u8) -> u8
+pub fn digit(n: u8) -> u8
     ensures { λ r. ⌜ r ≡ digitOf (n % 16) ⌝ }
 {
     n % 16 + 0x30 + n % 16 / 10 * 7

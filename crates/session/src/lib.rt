@@ -6,3 +6,4 @@ pub use calls::Fed;
 pub use calls::TakenLines;
 pub use state::Session;
 pub use state::Stage;
+pub use state::Wanted;

@@ -1,4 +1,4 @@
-// How far a run is.
+// How far a run is, and what is wanted of it.
 use bus::Bus;
 
 pub enum Stage {
@@ -13,4 +13,12 @@ pub enum Stage {
 pub struct Session {
     pub stage: Stage,
     pub bus: Bus,
+}
+
+// What is written for the lines of a run.
+pub enum Wanted {
+    // An answer line for each line.
+    Answers,
+    // The picture of each accepted event.
+    Pictures,
 }

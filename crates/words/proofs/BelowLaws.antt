@@ -1,4 +1,5 @@
--- The laws of `allBelow` and `orBelow`: one entry out of all, all from each, and what the OR of many numbers is.
+-- The laws of what is asked of, gathered from or listed for all numbers below a bound: one entry out of all, all from each, and what the OR of many
+-- numbers is.
 use mathlib.Core.Path.{_≡_, refl, sym, ap, ap₂, _∙_}
 use mathlib.Core.Logic.{_⊎_, ⊎-elim}
 use mathlib.Core.Bool.{Bool, true, false, not, cond, _&&_, _||_, and-eq-true-iff, true≢false}
@@ -7,11 +8,12 @@ use native.Mathlib.Nat.{not-suc-le-zero, le-antisymm, le-of-suc-le-suc, eq-or-lt
 use native.Mathlib.Numerals.{add-one}
 use native.Mathlib.Omega.{arith}
 use lib.Dec.{eqb}
+use lib.ListN.{length, getD}
 use lib.Pow.{pow-pos}
 use lib.Bits.{bitOr, or-shr, or-lt, or-comm, or-zero-r}
 use borrow.Author.Tests.{eqb-true}
 use Rattle.words.specs.Bits.{bitAt}
-use Rattle.words.specs.Below.{allBelow, orBelow}
+use Rattle.words.specs.Below.{allBelow, orBelow, listBelow}
 use Rattle.words.proofs.BitLaws.{bit-above, bit-or, bitOr-assoc}
 
 -- a number below n + 1 is n or below it
@@ -157,3 +159,16 @@ module _ (m : ℕ) (f : ℕ → ℕ) where
       (λ l.
       ap (λ (x : ℕ). bitOr x (f n)) (or-below-top n below p l e) ∙ or-comm m (f n) ∙ each n (lt-suc-self n))
       (last-or-below h)
+
+-- ---- What is listed below a bound
+
+pub list-below-long : {A : Type 0} (f : ℕ → A) (n : ℕ) → length (listBelow f n) ≡ n
+unfolding listBelow
+list-below-long f zero = refl
+list-below-long f (suc n) = ap suc (list-below-long (λ k. f (suc k)) n)
+
+pub list-below-at : {A : Type 0} (f : ℕ → A) (n k : ℕ) (other : A) → k < n → getD (listBelow f n) k other ≡ f k
+unfolding listBelow
+list-below-at f zero k other h = absurd (omega (arith, h))
+list-below-at f (suc n) zero other h = refl
+list-below-at f (suc n) (suc k) other h = list-below-at (λ k. f (suc k)) n k other (omega (arith, h))

@@ -21,6 +21,11 @@ unfoldable pub beside : {A : Type 0} → ℕ → List (ℕ × A) → A → A
 beside n [] other = other
 beside n (x ∷ xs) other = cond (eqb n (x .0)) (x .1) (beside n xs other)
 
+-- the first number that this is listed beside, or the other where it isn't listed
+unfoldable pub whoHas : ℕ → List (ℕ × ℕ) → ℕ → ℕ
+whoHas value [] other = other
+whoHas value (x ∷ xs) other = cond (eqb value (x .1)) (x .0) (whoHas value xs other)
+
 -- something is listed beside the number
 unfoldable pub hasBeside : {A : Type 0} → ℕ → List (ℕ × A) → Bool
 hasBeside n [] = false

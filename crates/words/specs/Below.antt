@@ -1,6 +1,7 @@
 -- What is asked of, or gathered from, every number below a bound, in ascending order.
 use Prim.Native.Nat.{ℕ, zero, suc}
 use mathlib.Core.Bool.{Bool, true, _&&_}
+use mathlib.Core.List.{List, [], _∷_}
 use lib.Bits.{bitOr}
 
 -- the test holds of each number below the bound
@@ -12,3 +13,8 @@ allBelow test (suc n) = allBelow test n && test n
 unfoldable pub orBelow : (ℕ → ℕ) → ℕ → ℕ
 orBelow f zero = 0
 orBelow f (suc n) = bitOr (orBelow f n) (f n)
+
+-- what f gives for each number below the bound, one behind the other
+unfoldable pub listBelow : {A : Type 0} → (ℕ → A) → ℕ → List A
+listBelow f zero = []
+listBelow f (suc n) = f 0 ∷ listBelow (λ k. f (suc k)) n

@@ -1,0 +1,88 @@
+-- The laws of a picture's digits, for the code that puts them.
+use mathlib.Core.Path.{_≡_, refl, sym, ap, _∙_}
+use mathlib.Core.Bool.{Bool, true, false}
+use mathlib.Core.List.{List, [], _∷_, _++_, append-nil}
+use Prim.Native.Nat.{ℕ, _+_, _%_, _<_}
+use native.Mathlib.Omega.{arith}
+use lib.ListN.{length, set, length-append}
+use lib.Seq.{sets}
+use Rattle.words.proofs.BelowLaws.{list-below-long}
+use Rattle.words.proofs.PartLaws.{sets-append}
+use Rattle.text.specs.Newlines.{newline}
+use Rattle.pins.specs.Picture.{fourBits, levelDigits, pictureDigits, levelsOf, drivenOf, pictureOf, pictureLine, pictureLength, linesFor}
+use Rattle.pins.specs.declared.moments.Moment.{Moment}
+
+pub four-bits-small : (a b c d : Bool) → fourBits a b c d < 16
+four-bits-small true true true true = omega arith
+four-bits-small true true true false = omega arith
+four-bits-small true true false true = omega arith
+four-bits-small true true false false = omega arith
+four-bits-small true false true true = omega arith
+four-bits-small true false true false = omega arith
+four-bits-small true false false true = omega arith
+four-bits-small true false false false = omega arith
+four-bits-small false true true true = omega arith
+four-bits-small false true true false = omega arith
+four-bits-small false true false true = omega arith
+four-bits-small false true false false = omega arith
+four-bits-small false false true true = omega arith
+four-bits-small false false true false = omega arith
+four-bits-small false false false true = omega arith
+four-bits-small false false false false = omega arith
+
+pub four-bits-whole : (a b c d : Bool) → fourBits a b c d % 16 ≡ fourBits a b c d
+four-bits-whole a b c d = omega (arith, four-bits-small a b c d)
+
+-- ---- How long it is
+
+pub levels-long : (m : Moment) → length (levelsOf m) ≡ levelDigits
+unfolding levelsOf
+levels-long m = list-below-long _ levelDigits
+
+pub driven-long : (m : Moment) → length (drivenOf m) ≡ levelDigits
+unfolding drivenOf
+driven-long m = list-below-long _ levelDigits
+
+pub picture-long : (m : Moment) → length (pictureOf m) ≡ pictureDigits
+picture-long m = omega (arith, length-append (levelsOf m) (drivenOf m), levels-long m, driven-long m)
+
+pub line-long : (m : Moment) → length (pictureLine m) ≡ pictureLength
+line-long m = omega (arith, length-append (pictureOf m) (newline ∷ []), picture-long m)
+
+-- ---- Put one behind the other
+
+-- some bytes at the front, and others right behind them
+behind : (xs ys place : List ℕ) (k : ℕ) → length xs ≡ k → sets (sets place 0 xs) k ys ≡ sets place 0 (xs ++ ys)
+behind xs ys place k e =
+    let here : k ≡ 0 + length xs = omega (arith, e) in
+    ap (λ (i : ℕ). sets (sets place 0 xs) i ys) here ∙ sym (sets-append xs ys place 0)
+
+-- levels, behind them what is driven, and a newline
+pub picture-put : (place : List ℕ) (m : Moment)
+    → set (sets (sets place 0 (levelsOf m)) levelDigits (drivenOf m)) pictureDigits newline ≡ sets place 0 (pictureLine m)
+picture-put place m =
+    ap (λ (l : List ℕ). set l pictureDigits newline) (behind (levelsOf m) (drivenOf m) place levelDigits (levels-long m))
+    ∙ behind (pictureOf m) (newline ∷ []) place pictureDigits (picture-long m)
+
+-- one line, and two
+pub one-line : (m : Moment) → linesFor (m ∷ []) ≡ pictureLine m
+unfolding linesFor
+one-line m = append-nil (pictureLine m)
+
+pub two-lines : (m n : Moment) → linesFor (m ∷ n ∷ []) ≡ pictureLine m ++ pictureLine n
+unfolding linesFor
+two-lines m n = ap (λ (l : List ℕ). pictureLine m ++ l) (append-nil (pictureLine n))
+
+pub one-put : (out out' : List ℕ) (written : ℕ) (m n : Moment) → m ≡ n → (written ≡ pictureLength) × (out' ≡ sets out 0 (pictureLine m))
+    → (written ≡ length (linesFor (n ∷ []))) × (out' ≡ sets out 0 (linesFor (n ∷ [])))
+one-put out out' written m n same put = rw (one-line n) (
+  put .0 ∙ sym (line-long n),
+  put .1 ∙ ap (λ (l : Moment). sets out 0 (pictureLine l)) same,
+)
+
+pub two-put : (place : List ℕ) (m n : Moment)
+    → sets (sets place 0 (pictureLine m)) pictureLength (pictureLine n) ≡ sets place 0 (linesFor (m ∷ n ∷ []))
+two-put place m n = behind (pictureLine m) (pictureLine n) place pictureLength (line-long m) ∙ ap (sets place 0) (sym (two-lines m n))
+
+pub two-long : (m n : Moment) → length (linesFor (m ∷ n ∷ [])) ≡ pictureLength + pictureLength
+two-long m n = ap length (two-lines m n) ∙ omega (arith, length-append (pictureLine m) (pictureLine n), line-long m, line-long n)

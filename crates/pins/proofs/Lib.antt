@@ -1,0 +1,3 @@
+-- Laws of pictures that the functions' proofs cite, and the promises' proofs.
+pub mod AsComputed
+pub mod DigitLaws

@@ -1,0 +1,28 @@
+// What a line of a picture shows, and what is read from one.
+
+// What stands on the bus at the moment that a line shows. Where something isn't driven its number says nothing.
+pub struct Moment {
+    // The true signals, as an answer weighs them.
+    pub signals: u8,
+    // What the priority lines show.
+    pub lines: u8,
+    // The true control outputs.
+    pub control: u8,
+    pub status: u8,
+    pub address: u32,
+    // The byte on the DO lines, and that on the DI lines.
+    pub dout: u8,
+    pub din: u8,
+    // A cycle is on, so that address and status are driven, and the data lines that it moves a byte on.
+    pub cyclic: bool,
+    pub outward: bool,
+    pub inward: bool,
+}
+
+// What the pins of a picture tell, or why its line can't be read.
+pub struct Seen {
+    pub refusal: u8,
+    pub phase: u8,
+    pub signals: u8,
+    pub lines: u8,
+}

@@ -1,0 +1,4 @@
+-- The laws that the proofs of pictures cite.
+pub mod FiveLaws
+pub mod KindLaws
+pub mod SplitLaws

@@ -1,0 +1,7 @@
+-- By what the calls give.
+use borrow.Author.Needs.{needs}
+use Rattle.printing.proofs.moments.odd_moment.Statement.{statement}
+use Rattle.printing.proofs.moments.odd_moment.Tie as tie
+
+pub odd-moment-spec : {M : Type 1} → statement M
+odd-moment-spec = tie.close (tie.spec (λ c κs. search needs) (λ c κs. search needs) (λ c κs. search needs) (λ c κs. search needs) (λ c. cc))

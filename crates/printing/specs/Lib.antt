@@ -1,0 +1,2 @@
+-- What the inner functions put of a picture.
+pub mod Fives

@@ -1,0 +1,287 @@
+// The levels of the hundred pins at one moment, twenty pins to a function, four to a digit (003, Appendix B).
+ghost use mathlib.Core.Path.{_≡_};
+ghost use Prim.Native.Nat.{_≤_};
+ghost use lib.ListN.{length};
+ghost use lib.Seq.{sets};
+ghost use Rattle.pins.specs.Picture.{pictureLength, levelsOf};
+ghost use Rattle.printing.specs.Fives.{fiveLevels};
+use crate::pin_digits::ZERO;
+use crate::pin_digits::pin_digit;
+use crate::pin_digits::put_five;
+use phases::numbers::*;
+use pins::Moment;
+
+// The lines of the address, and those of a byte or of the priority number, by weight.
+const A0: u32 = 0x1;
+
+const A1: u32 = 0x2;
+
+const A2: u32 = 0x4;
+
+const A3: u32 = 0x8;
+
+const A4: u32 = 0x10;
+
+const A5: u32 = 0x20;
+
+const A6: u32 = 0x40;
+
+const A7: u32 = 0x80;
+
+const A8: u32 = 0x100;
+
+const A9: u32 = 0x200;
+
+const A10: u32 = 0x400;
+
+const A11: u32 = 0x800;
+
+const A12: u32 = 0x1000;
+
+const A13: u32 = 0x2000;
+
+const A14: u32 = 0x4000;
+
+const A15: u32 = 0x8000;
+
+const A16: u32 = 0x10000;
+
+const A17: u32 = 0x20000;
+
+const A18: u32 = 0x40000;
+
+const A19: u32 = 0x80000;
+
+const A20: u32 = 0x100000;
+
+const A21: u32 = 0x200000;
+
+const A22: u32 = 0x400000;
+
+const A23: u32 = 0x800000;
+
+const D0: u8 = 0x01;
+
+const D1: u8 = 0x02;
+
+const D2: u8 = 0x04;
+
+const D3: u8 = 0x08;
+
+const D4: u8 = 0x10;
+
+const D5: u8 = 0x20;
+
+const D6: u8 = 0x40;
+
+const D7: u8 = 0x80;
+
+pub fn put_levels(m: Moment, out: &mut [u8])
+    requires { ⌜ pictureLength ≤ length (now out) ⌝ }
+    ensures { λ _. ⌜ now (out .exit) ≡ sets (now (out .entry)) 0 (levelsOf m) ⌝ }
+{
+    put_levels_1(m, out);
+    put_levels_21(m, out);
+    put_levels_41(m, out);
+    put_levels_61(m, out);
+    put_levels_81(m, out);
+}
+
+// Pins 1 to 20.
+fn put_levels_1(m: Moment, out: &mut [u8])
+    requires { ⌜ pictureLength ≤ length (now out) ⌝ }
+    ensures { λ _. ⌜ now (out .exit) ≡ sets (now (out .entry)) 0 (fiveLevels 0 m) ⌝ }
+{
+    let lines = m.lines;
+    let cyclic = m.cyclic;
+    let address = m.address;
+    let signals = m.signals;
+    put_five(
+        out,
+        0,
+        ZERO,
+        ZERO,
+        ZERO,
+        pin_digit(
+            false,
+            !(lines / D3 % 2 == 1),
+            cyclic & (address / A18 % 2 == 1),
+            cyclic & (address / A16 % 2 == 1),
+        ),
+        pin_digit(
+            cyclic & (address / A17 % 2 == 1),
+            !(signals / SDSB % 2 == 1),
+            !(signals / CDSB % 2 == 1),
+            false,
+        ),
+    );
+}
+
+// Pins 21 to 40.
+fn put_levels_21(m: Moment, out: &mut [u8])
+    requires { ⌜ pictureLength ≤ length (now out) ⌝ }
+    ensures { λ _. ⌜ now (out .exit) ≡ sets (now (out .entry)) 5 (fiveLevels 5 m) ⌝ }
+{
+    let signals = m.signals;
+    let control = m.control;
+    let cyclic = m.cyclic;
+    let address = m.address;
+    let outward = m.outward;
+    let dout = m.dout;
+    put_five(
+        out,
+        5,
+        pin_digit(
+            false,
+            !(signals / ADSB % 2 == 1),
+            !(signals / DODSB % 2 == 1),
+            false,
+        ),
+        pin_digit(
+            !(control / P_STVAL % 2 == 1),
+            control / P_HLDA % 2 == 1,
+            false,
+            false,
+        ),
+        pin_digit(
+            cyclic & (address / A5 % 2 == 1),
+            cyclic & (address / A4 % 2 == 1),
+            cyclic & (address / A3 % 2 == 1),
+            cyclic & (address / A15 % 2 == 1),
+        ),
+        pin_digit(
+            cyclic & (address / A12 % 2 == 1),
+            cyclic & (address / A9 % 2 == 1),
+            outward & (dout / D1 % 2 == 1),
+            outward & (dout / D0 % 2 == 1),
+        ),
+        pin_digit(
+            cyclic & (address / A10 % 2 == 1),
+            outward & (dout / D4 % 2 == 1),
+            outward & (dout / D5 % 2 == 1),
+            outward & (dout / D6 % 2 == 1),
+        ),
+    );
+}
+
+// Pins 41 to 60.
+fn put_levels_41(m: Moment, out: &mut [u8])
+    requires { ⌜ pictureLength ≤ length (now out) ⌝ }
+    ensures { λ _. ⌜ now (out .exit) ≡ sets (now (out .entry)) 10 (fiveLevels 10 m) ⌝ }
+{
+    let inward = m.inward;
+    let din = m.din;
+    let cyclic = m.cyclic;
+    let status = m.status;
+    let lines = m.lines;
+    let signals = m.signals;
+    let address = m.address;
+    put_five(
+        out,
+        10,
+        pin_digit(
+            inward & (din / D2 % 2 == 1),
+            inward & (din / D3 % 2 == 1),
+            inward & (din / D7 % 2 == 1),
+            cyclic & (status / S_M1 % 2 == 1),
+        ),
+        pin_digit(
+            cyclic & (status / S_OUT % 2 == 1),
+            cyclic & (status / S_INP % 2 == 1),
+            cyclic & (status / S_MEMR % 2 == 1),
+            false,
+        ),
+        ZERO,
+        pin_digit(false, false, !(lines / D0 % 2 == 1), !(lines / D1 % 2 == 1)),
+        pin_digit(
+            !(lines / D2 % 2 == 1),
+            cyclic & !(signals / S_XTRQ % 2 == 1),
+            cyclic & (address / A19 % 2 == 1),
+            !(signals / SIXTN % 2 == 1),
+        ),
+    );
+}
+
+// Pins 61 to 80.
+fn put_levels_61(m: Moment, out: &mut [u8])
+    requires { ⌜ pictureLength ≤ length (now out) ⌝ }
+    ensures { λ _. ⌜ now (out .exit) ≡ sets (now (out .entry)) 15 (fiveLevels 15 m) ⌝ }
+{
+    let cyclic = m.cyclic;
+    let address = m.address;
+    let control = m.control;
+    let status = m.status;
+    let signals = m.signals;
+    put_five(
+        out,
+        15,
+        pin_digit(
+            cyclic & (address / A20 % 2 == 1),
+            cyclic & (address / A21 % 2 == 1),
+            cyclic & (address / A22 % 2 == 1),
+            cyclic & (address / A23 % 2 == 1),
+        ),
+        pin_digit(
+            false,
+            false,
+            false,
+            (control / P_WR % 2 == 1) & !(status / S_OUT % 2 == 1),
+        ),
+        ZERO,
+        pin_digit(
+            false,
+            !(signals / HOLD % 2 == 1),
+            false,
+            control / P_SYNC % 2 == 1,
+        ),
+        pin_digit(
+            !(control / P_WR % 2 == 1),
+            control / P_DBIN % 2 == 1,
+            cyclic & (address / A0 % 2 == 1),
+            cyclic & (address / A1 % 2 == 1),
+        ),
+    );
+}
+
+// Pins 81 to 100.
+fn put_levels_81(m: Moment, out: &mut [u8])
+    requires { ⌜ pictureLength ≤ length (now out) ⌝ }
+    ensures { λ _. ⌜ now (out .exit) ≡ sets (now (out .entry)) 20 (fiveLevels 20 m) ⌝ }
+{
+    let cyclic = m.cyclic;
+    let address = m.address;
+    let outward = m.outward;
+    let dout = m.dout;
+    let inward = m.inward;
+    let din = m.din;
+    let status = m.status;
+    put_five(
+        out,
+        20,
+        pin_digit(
+            cyclic & (address / A2 % 2 == 1),
+            cyclic & (address / A6 % 2 == 1),
+            cyclic & (address / A7 % 2 == 1),
+            cyclic & (address / A8 % 2 == 1),
+        ),
+        pin_digit(
+            cyclic & (address / A13 % 2 == 1),
+            cyclic & (address / A14 % 2 == 1),
+            cyclic & (address / A11 % 2 == 1),
+            outward & (dout / D2 % 2 == 1),
+        ),
+        pin_digit(
+            outward & (dout / D3 % 2 == 1),
+            outward & (dout / D7 % 2 == 1),
+            inward & (din / D4 % 2 == 1),
+            inward & (din / D5 % 2 == 1),
+        ),
+        pin_digit(
+            inward & (din / D6 % 2 == 1),
+            inward & (din / D1 % 2 == 1),
+            inward & (din / D0 % 2 == 1),
+            false,
+        ),
+        pin_digit(cyclic & !(status / S_WO % 2 == 1), false, false, false),
+    );
+}
