@@ -87,8 +87,8 @@ impl Buffer {
     }
 }
 
-/// What one of the two is lent. The list is a setup's pages, a settle's cards, the answer of a picture or the line to read, which no call may
-/// change; of the three numbers the middle one is lent for settle's count.
+/// What one of the two is lent. The list is a setup's pages, a settle's cards, the answer of a picture or the line to read, which no call
+/// may change; of the three numbers the middle one is lent for settle's count.
 #[derive(PartialEq)]
 pub struct Side {
     state: Buffer,
@@ -222,8 +222,8 @@ impl Both {
         self.model.memory.place(at, bytes);
     }
 
-    /// Makes the call of both and returns the number that both returned; the program ends at a difference. A step is followed by its picture,
-    /// and a picture by the reading of its lines; what is expected afterwards is still said of the call itself.
+    /// Makes the call of both and returns the number that both returned; the program ends at a difference. A step is followed by its
+    /// picture, and a picture by the reading of its lines; what is expected afterwards is still said of the call itself.
     pub fn make(&mut self, call: Call, lent: Lengths) -> u32 {
         self.calls += 1;
         let found = self.compare(call, lent);
@@ -274,8 +274,8 @@ impl Both {
         }
     }
 
-    /// What is read from each line of a picture of so many bytes. A line that was just read isn't read once more: most looks leave the pins as
-    /// they were.
+    /// What is read from each line of a picture of so many bytes. A line that was just read isn't read once more: most looks leave the pins
+    /// as they were.
     fn read_back(&mut self, written: u32, lent: Lengths) -> Vec<[u8; SEEN_SIZE]> {
         let mut read = Vec::new();
         if written == Refusal::WrongLength as u32 {

@@ -1,5 +1,5 @@
-//! Compares the proved library, called through its C face, with an independent model of the rules in 01 and of the pictures in 02, CR 1, and
-//! tells what was reached.
+//! Compares the proved library, called through its C face, with an independent model of the rules in 01 and of the pictures in 02, CR 1,
+//! and tells what was reached.
 //!
 //! Usage: compare [CALLS [SEED]], where CALLS is the least number of random calls. It exits 0 only if the two agreed in everything and
 //! everything was reached that ought to be.
@@ -212,8 +212,8 @@ fn bad_lines(both: &mut Both, chance: &mut Chance) {
     both.expect(number == Refusal::BadLine as u32, "a line is read without its newline");
 }
 
-/// Each buffer of a picture and of its reading alone of a wrong length, which comes before refused events and bad lines. Room for one line is
-/// wrong as well, also where there is no second.
+/// Each buffer of a picture and of its reading alone of a wrong length, which comes before refused events and bad lines. Room for one line
+/// is wrong as well, also where there is no second.
 fn wrong_lengths_of_pictures(both: &mut Both, chance: &mut Chance, cases: usize) {
     for case in 0..cases {
         let (kind, address) = (chance.between(0x01, 0x0F), draw::memory_address(chance));

@@ -1,5 +1,5 @@
-//! A model of the bus for the comparison to hold the proved library against: its rules are those of 01, its pictures those of 02, CR 1, with
-//! the pins of 003, Appendix B, and its bytes those of include/s100.h.
+//! A model of the bus for the comparison to hold the proved library against: its rules are those of 01, its pictures those of 02, CR 1,
+//! with the pins of 003, Appendix B, and its bytes those of include/s100.h.
 //!
 //! Bytes that make no sense never become a `Bus`, so that its events needn't think of them. The functions at the end take what the C face
 //! takes: any bytes, of any length.

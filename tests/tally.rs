@@ -1,5 +1,5 @@
-//! Counts of what the comparison reached: the numbers returned, the accepted kinds in each phase, the fields, the pictures in each phase and
-//! the wrong lengths.
+//! Counts of what the comparison reached: the numbers returned, the accepted kinds in each phase, the fields, the pictures in each phase
+//! and the wrong lengths.
 
 use crate::both::{Call, Lengths, RIGHT};
 use crate::face::{Field, ANSWER_SIZE, NO_FIELD, PAGES_SIZE};

@@ -1,15 +1,23 @@
 -- The laws of a picture's digits, for the code that puts them.
 use mathlib.Core.Path.{_≡_, refl, sym, ap, _∙_}
-use mathlib.Core.Bool.{Bool, true, false}
+use mathlib.Core.Bool.{Bool, true, false, cond}
 use mathlib.Core.List.{List, [], _∷_, _++_, append-nil}
-use Prim.Native.Nat.{ℕ, _+_, _%_, _<_}
+use Prim.Native.Nat.{ℕ, _+_, _%_, _<_, _≤_}
 use native.Mathlib.Omega.{arith}
+use lib.Dec.{eqb}
 use lib.ListN.{length, set, length-append}
 use lib.Seq.{sets}
+use borrow.Author.Tests.{ne-eqb}
 use Rattle.words.proofs.BelowLaws.{list-below-long}
 use Rattle.words.proofs.PartLaws.{sets-append}
+use Rattle.phases.specs.Kind as Kind
+use Rattle.memory.specs.Halves.{oddHalf}
+use Rattle.bus.specs.Refusal.{accepted}
+use Rattle.judgement.specs.declared.event.Event.{Event}
+use Rattle.events.specs.declared.answers.Answer.{Answer}
 use Rattle.text.specs.Newlines.{newline}
-use Rattle.pins.specs.Picture.{fourBits, levelDigits, pictureDigits, levelsOf, drivenOf, pictureOf, pictureLine, pictureLength, linesFor}
+use Rattle.pins.specs.Moments.{idleMoment, byteMoment, wordMoment, evenMoment, oddMoment, isSplit, hasStrobe, momentsOf}
+use Rattle.pins.specs.Picture.{fourBits, levelDigits, pictureDigits, levelsOf, drivenOf, pictureOf, pictureLine, pictureLength, mostPictured, picturesOf, linesFor}
 use Rattle.pins.specs.declared.moments.Moment.{Moment}
 
 pub four-bits-small : (a b c d : Bool) → fourBits a b c d < 16
@@ -65,6 +73,10 @@ picture-put place m =
     ∙ behind (pictureOf m) (newline ∷ []) place pictureDigits (picture-long m)
 
 -- one line, and two
+no-lines : length (linesFor []) ≡ 0
+unfolding linesFor
+no-lines = refl
+
 pub one-line : (m : Moment) → linesFor (m ∷ []) ≡ pictureLine m
 unfolding linesFor
 one-line m = append-nil (pictureLine m)
@@ -86,3 +98,30 @@ two-put place m n = behind (pictureLine m) (pictureLine n) place pictureLength (
 
 pub two-long : (m n : Moment) → length (linesFor (m ∷ n ∷ [])) ≡ pictureLength + pictureLength
 two-long m n = ap length (two-lines m n) ∙ omega (arith, length-append (pictureLine m) (pictureLine n), line-long m, line-long n)
+
+-- ---- The lines of an event have room
+
+pub pictures-fit : (event : Event) (answer : Answer) → length (picturesOf event answer) ≤ mostPictured
+unfolding momentsOf
+pictures-fit event answer =
+    go (eqb (answer .refusal) accepted) (hasStrobe (event .kind)) (isSplit event answer) (Kind.isWord (event .kind))
+  where
+    one : (m : Moment) → length (linesFor (m ∷ [])) ≤ mostPictured
+    one m = omega (arith, ap length (one-line m), line-long m)
+    none : length (linesFor []) ≤ mostPictured
+    none = omega (arith, no-lines)
+    go : (taken strobe split word : Bool)
+        → length (linesFor (cond taken (cond strobe (
+        cond split (evenMoment event answer ∷ oddMoment event answer ∷ [])
+        (cond word (wordMoment event answer ∷ []) (byteMoment event answer (answer .signals) (event .address) (oddHalf (answer .datum)) ∷ [])))
+        (idleMoment event answer ∷ [])) []))
+        ≤ mostPictured
+    go false strobe split word = none
+    go true false split word = one (idleMoment event answer)
+    go true true true word = omega (arith, two-long (evenMoment event answer) (oddMoment event answer))
+    go true true false true = one (wordMoment event answer)
+    go true true false false = one (byteMoment event answer (answer .signals) (event .address) (oddHalf (answer .datum)))
+
+pub no-picture : (event : Event) (answer : Answer) → (answer .refusal ≡ accepted → ⊥) → picturesOf event answer ≡ []
+unfolding momentsOf linesFor
+no-picture event answer refused = rw (ne-eqb (answer .refusal) accepted refused) refl

@@ -19,12 +19,13 @@ use Rattle.text.proofs.NewlineLaws.{none-at}
 use Rattle.text.proofs.LinePromises.{taken-fits, held-is-short, front-has-none, line-unended, ended-line, no-newline, last-of, last-none}
 use Rattle.text.proofs.ChunkLaws.{chunks-say-the-same, fed-kept}
 use Rattle.text.proofs.ReadingLaws.{taken-next, taken-none, unended-stops, rest-length, taken-rest, answer-long}
-use Rattle.session.specs.World.{World, says, turns, mostSaid, answering, saysBy, eventAnswer, machineOf, setupAnswer, setUpBy, freshWorld}
+use Rattle.session.specs.World.{World, says, turns, mostSaid, answering, saysBy, machineOf, setupAnswer, setUpBy, freshWorld}
 use Rattle.session.specs.Feeding.{takes, hasRoom, feedRefusal, takesLast, wantsNewline, endedText, endedAt}
 use Rattle.session.specs.Output.{answers, ranIn}
 use Rattle.session.specs.Promises.{
   AnyChunks,
   CallsGoOn,
+  CallsAnswer,
   FedInPlace,
   FeedRefused,
   FinishRefused,
@@ -36,19 +37,21 @@ use Rattle.session.specs.Promises.{
   WholeRun,
 }
 use Rattle.session.specs.declared.state.Stage.the-variants.{Awaiting, Running}
+use Rattle.session.specs.declared.state.Wanted.{Wanted}
+use Rattle.session.specs.declared.state.Wanted.the-variants.{Answers, Pictures}
 use Rattle.session.proofs.CallLaws.{held-within}
 use Rattle.session.proofs.SoundLaws.{Sound, sound-turns, sound-fresh}
-use Rattle.session.proofs.LoopLaws.{says-at-most}
+use Rattle.session.proofs.LoopLaws.{event-answered, says-at-most}
 use Rattle.session.proofs.FeedLaws.{call-accepted}
 use Rattle.session.proofs.RunPromises.{cut-changes-nothing, one-said, none-said}
 
 -- ---- Chunks
 
 pub any-chunks : AnyChunks
-any-chunks calls = chunks-say-the-same World answering cut-changes-nothing freshWorld calls
+any-chunks wanted calls = chunks-say-the-same World (answering wanted) (cut-changes-nothing wanted) freshWorld calls
 
-said-fits : (size : ℕ) (w : World) (text : List ℕ) → length (takes size w text .said) ≤ size
-said-fits size w text = taken-fits World answering says-at-most size w text .0
+said-fits : (wanted : Wanted) (size : ℕ) (w : World) (text : List ℕ) → length (takes wanted size w text .said) ≤ size
+said-fits wanted size w text = taken-fits World (answering wanted) (says-at-most wanted) size w text .0
 
 -- ---- In place
 
@@ -58,75 +61,78 @@ put-front out bytes h =
     ap (take (length bytes)) (sets-eq bytes out 0 (omega (arith, h))) ∙ take-append-seam bytes (drop (0 + length bytes) out)
 
 pub fed-in-place : FedInPlace
-fed-in-place w text filled out given =
-    let t = takes (length out) w (take filled text) in
+fed-in-place wanted w text filled out given =
+    let t = takes wanted (length out) w (take filled text) in
     rw (eq-eqb (feedRefusal (w .session .bus) (w .memory) (w .ports) text filled) Refusal.accepted given) (
-      put-front out (t .said) (said-fits (length out) w (take filled text)),
+      put-front out (t .said) (said-fits wanted (length out) w (take filled text)),
       (take-append-seam (heldOf (t .rest)) (drop (length (heldOf (t .rest))) text), refl),
     )
 
 -- ---- A call goes on
 
+pub calls-go-on : CallsGoOn
+calls-go-on wanted w size text has room = rw (taken-next (answering wanted) size w text has room) (omega arith)
+
 -- a session that goes on says something to each line
-says-some : (w : World) (line : List ℕ) → (w .session .stage ≡ Awaiting) ⊎ (w .session .stage ≡ Running) → 0 < length (says w line)
+says-some : (w : World) (line : List ℕ) → (w .session .stage ≡ Awaiting) ⊎ (w .session .stage ≡ Running) → 0 < length (says Answers w line)
 unfolding saysBy
 says-some w line =
     ⊎-elim (λ e. rw e (omega (arith, answer-long (setupAnswer (setUpBy (setupIn line))))))
-    (λ e. rw e (omega (arith, answer-long (eventAnswer (machineOf w) line))))
+    (λ e. rw e (event-answered (machineOf w) line))
 
-pub calls-go-on : CallsGoOn
-calls-go-on w size text has room goes =
-    let line = says w (firstLine text) in
-    let later = takes (size - length line) (turns w (firstLine text)) (restOf text) in
-    rw (taken-next answering size w text has room) (omega (arith, says-some w (firstLine text) goes, length-append line (later .said)))
+pub calls-answer : CallsAnswer
+calls-answer w size text has room goes =
+    let line = says Answers w (firstLine text) in
+    let later = takes Answers (size - length line) (turns w (firstLine text)) (restOf text) in
+    rw (taken-next (answering Answers) size w text has room) (omega (arith, says-some w (firstLine text) goes, length-append line (later .said)))
 
-held-less : (room : ℕ) (w : World) (text : List ℕ) (size : ℕ) → mostSaid ≤ room → length text ≤ size → mostHeld < size
-    → length (heldOf (takes room w text .rest)) < size
-held-less room w text size some short long =
+held-less : (wanted : Wanted) (room : ℕ) (w : World) (text : List ℕ) (size : ℕ) → (mostSaid wanted) ≤ room → length text ≤ size → mostHeld < size
+    → length (heldOf (takes wanted room w text .rest)) < size
+held-less wanted room w text size some short long =
     ⊎-elim
     (λ (has : hasNewline text ≡ true).
     let next = turns w (firstLine text) in
-    let left = room - length (says w (firstLine text)) in
-    let t = takes left next (restOf text) in
-    rw (taken-next answering room w text has some) (omega (
+    let left = room - length (says wanted w (firstLine text)) in
+    let t = takes wanted left next (restOf text) in
+    rw (taken-next (answering wanted) room w text has some) (omega (
       arith,
       held-within (t .rest),
-      ap length (taken-rest answering left next (restOf text)),
+      ap length (taken-rest (answering wanted) left next (restOf text)),
       length-drop (t .used) (restOf text),
       rest-length text has,
       short,
     )))
     (λ (none : hasNewline text ≡ false).
-    rw (taken-none answering room w text (unended-stops answering room text none)) (omega (arith, held-is-short text none, long)))
+    rw (taken-none (answering wanted) room w text (unended-stops (answering wanted) room text none)) (omega (arith, held-is-short text none, long)))
     (true-or-false (hasNewline text))
 
 pub feed-refused : FeedRefused
-feed-refused w text filled out n given other = rw (given, ne-eqb n Refusal.accepted other) (refl, (refl, (refl, refl)))
+feed-refused wanted w text filled out n given other = rw (given, ne-eqb n Refusal.accepted other) (refl, (refl, (refl, refl)))
 
 pub finish-refused : FinishRefused
-finish-refused w text held out n given other = rw (given, ne-eqb n Refusal.accepted other) (refl, (refl, (refl, refl)))
+finish-refused wanted w text held out n given other = rw (given, ne-eqb n Refusal.accepted other) (refl, (refl, (refl, refl)))
 
 pub nothing-to-end : NothingToEnd
-nothing-to-end w text held out none = rw (wanted none) (refl, (refl, (refl, refl)))
+nothing-to-end wanted w text held out none = rw (asked none) (refl, (refl, (refl, refl)))
   where
-    wanted : (held ≡ 0) ⊎ ((length text ≤ held) ⊎ (getD text (held - 1) 0 ≡ newline)) → wantsNewline text held ≡ false
-    wanted (inl empty) = rw empty
-    wanted (inr (inl full)) = rw (le-ltb held (length text) full) (third (ltb 0 held))
+    asked : (held ≡ 0) ⊎ ((length text ≤ held) ⊎ (getD text (held - 1) 0 ≡ newline)) → wantsNewline text held ≡ false
+    asked (inl empty) = rw empty
+    asked (inr (inl full)) = rw (le-ltb held (length text) full) (third (ltb 0 held))
       where
         third : (b : Bool) → (b && false && not (eqb (getD text (held - 1) 0) newline)) ≡ false
         third true = refl
         third false = refl
-    wanted (inr (inr ended)) = rw (eq-eqb _ _ ended) (last (ltb 0 held && ltb held (length text)))
+    asked (inr (inr ended)) = rw (eq-eqb _ _ ended) (last (ltb 0 held && ltb held (length text)))
       where
         last : (b : Bool) → (b && false) ≡ false
         last true = refl
         last false = refl
 
 pub room-to-read : RoomToRead
-room-to-read w text filled out given long room =
+room-to-read wanted w text filled out given long room =
     let s = call-accepted (w .session .bus) (w .memory) (w .ports) text filled given in
     rw (eq-eqb (feedRefusal (w .session .bus) (w .memory) (w .ports) text filled) Refusal.accepted given) (
-    held-less (length out) w (take filled text) (length text) room
+    held-less wanted (length out) w (take filled text) (length text) room
     (omega (arith, length-take-le filled text (s .filled-within), s .filled-within)) long)
 
 -- what is held of a rest without a newline has none
@@ -134,32 +140,36 @@ held-none : (rest : List ℕ) → hasNewline rest ≡ false → hasNewline (held
 held-none rest none = rw none (front-has-none mostHeld rest none)
 
 pub room-asked : RoomAsked
-room-asked size written = (
-  λ room. let left = leb-true mostSaid (size - written) room in omega (arith, left),
-  λ left. le-leb mostSaid (size - written) (omega (arith, left)),
+room-asked wanted size written = (
+  λ room. let left = leb-true (mostSaid wanted) (size - written) room in omega (arith, left, some-said wanted),
+  λ left. le-leb (mostSaid wanted) (size - written) (omega (arith, left)),
 )
+  where
+    some-said : (wanted' : Wanted) → 0 < mostSaid wanted'
+    some-said Answers = omega arith
+    some-said Pictures = omega arith
 
 pub nothing-complete-held : NothingCompleteHeld
-nothing-complete-held w text filled out given room =
-    let t = takes (length out) w (take filled text) in
-    let in-place = fed-in-place w text filled out given in
+nothing-complete-held wanted w text filled out given room =
+    let t = takes wanted (length out) w (take filled text) in
+    let in-place = fed-in-place wanted w text filled out given in
     let yes = eq-eqb (feedRefusal (w .session .bus) (w .memory) (w .ports) text filled) Refusal.accepted given in
-    let left : hasRoom (length out) (length (t .said)) ≡ true = rw yes at room in
+    let left : hasRoom wanted (length out) (length (t .said)) ≡ true = rw yes at room in
     rw (in-place .1 .0) (
     held-none (t .rest)
-    (taken-fits World answering says-at-most (length out) w (take filled text) .1 (leb-true mostSaid (length out - length (t .said)) left)))
+    (taken-fits World (answering wanted) (says-at-most wanted) (length out) w (take filled text) .1 (leb-true (mostSaid wanted) (length out - length (t .said)) left)))
 
 -- ---- The last line
 
 -- one line with its newline, taken off where there is room, says what the line alone is answered
-last-takes : (size : ℕ) (w : World) (line : List ℕ) → hasNewline line ≡ false → mostSaid ≤ size
-    → takes size w (line ++ newline ∷ []) .said ≡ answers w (line ∷ [])
-last-takes size w line none room =
+last-takes : (wanted : Wanted) (size : ℕ) (w : World) (line : List ℕ) → hasNewline line ≡ false → (mostSaid wanted) ≤ size
+    → takes wanted size w (line ++ newline ∷ []) .said ≡ answers wanted w (line ∷ [])
+last-takes wanted size w line none room =
     let ended = ended-line line none in
-    let left = size - length (says w line) in
-    rw (taken-next answering size w (line ++ newline ∷ []) (ended .0) room, ended .1 .0, ended .1 .1) (
-    rw (taken-none answering left (turns w line) [] (unended-stops answering left [] no-newline)) (
-    sym (one-said w line [] ∙ ap (λ (l : List ℕ). says w line ++ l) (none-said (turns w line)))))
+    let left = size - length (says wanted w line) in
+    rw (taken-next (answering wanted) size w (line ++ newline ∷ []) (ended .0) room, ended .1 .0, ended .1 .1) (
+    rw (taken-none (answering wanted) left (turns w line) [] (unended-stops (answering wanted) left [] no-newline)) (
+    sym (one-said wanted w line [] ∙ ap (λ (l : List ℕ). says wanted w line ++ l) (none-said wanted (turns w line)))))
 
 -- the text that the end of the input has ended
 ended-take : (text : List ℕ) (held : ℕ) → 0 < held → held < length text → hasNewline (take held text) ≡ false
@@ -172,22 +182,22 @@ ended-take text held some within none =
     rw (lt-ltb 0 held some, lt-ltb held (length text) within, ne-eqb (getD text (held - 1) 0) newline last) (
     ap (λ (k : ℕ). take k (set text held newline)) one ∙ take-suc-set text held newline within)
 
-finished-said : (w : World) (text : List ℕ) (held size : ℕ) → held < length text → hasNewline (take held text) ≡ false → mostSaid ≤ size
-    → takesLast size w text held .said ≡ answers w (textLines (take held text))
-finished-said w text zero size within none room =
-    ap (λ (t : Taken World). t .said) (taken-none answering size w [] (unended-stops answering size [] no-newline))
-    ∙ sym (ap (answers w) (line-unended [] no-newline ∙ last-none) ∙ none-said w)
-finished-said w [] (suc k) size within none room = absurd (omega (arith, within))
-finished-said w (b ∷ text) (suc k) size within none room =
-    ap (λ (l : List ℕ). takes size w l .said) (ended-take (b ∷ text) (suc k) (omega arith) within none)
-    ∙ last-takes size w (take (suc k) (b ∷ text)) none room
-    ∙ ap (answers w) (sym (line-unended (take (suc k) (b ∷ text)) none ∙ last-of b (take k text)))
+finished-said : (wanted : Wanted) (w : World) (text : List ℕ) (held size : ℕ) → held < length text → hasNewline (take held text) ≡ false → (mostSaid wanted) ≤ size
+    → takesLast wanted size w text held .said ≡ answers wanted w (textLines (take held text))
+finished-said wanted w text zero size within none room =
+    ap (λ (t : Taken World). t .said) (taken-none (answering wanted) size w [] (unended-stops (answering wanted) size [] no-newline))
+    ∙ sym (ap (answers wanted w) (line-unended [] no-newline ∙ last-none) ∙ none-said wanted w)
+finished-said wanted w [] (suc k) size within none room = absurd (omega (arith, within))
+finished-said wanted w (b ∷ text) (suc k) size within none room =
+    ap (λ (l : List ℕ). takes wanted size w l .said) (ended-take (b ∷ text) (suc k) (omega arith) within none)
+    ∙ last-takes wanted size w (take (suc k) (b ∷ text)) none room
+    ∙ ap (answers wanted w) (sym (line-unended (take (suc k) (b ∷ text)) none ∙ last-of b (take k text)))
 
 pub finished-in-place : FinishedInPlace
-finished-in-place w text held out given within none room =
+finished-in-place wanted w text held out given within none room =
     rw (eq-eqb (feedRefusal (w .session .bus) (w .memory) (w .ports) text held) Refusal.accepted given) (
-    put-front out (takesLast (length out) w text held .said) (said-fits (length out) w (take (endedAt text held) (endedText text held)))
-    ∙ finished-said w text held (length out) within none room)
+    put-front out (takesLast wanted (length out) w text held .said) (said-fits wanted (length out) w (take (endedAt text held) (endedText text held)))
+    ∙ finished-said wanted w text held (length out) within none room)
 
 -- ---- A whole run
 
@@ -196,12 +206,12 @@ sound-accepted : (w : World) (text : List ℕ) (held : ℕ) → Sound w → held
 sound-accepted w text held s within = rw (s .fit, le-ltb (length text) held (omega (arith, within)), s .sense) refl
 
 pub whole-run : WholeRun
-whole-run calls text out same within none room =
-    let r = ranIn calls in
-    let sound = fed-kept answering Sound sound-turns calls (begunIn freshWorld) sound-fresh in
+whole-run wanted calls text out same within none room =
+    let r = ranIn wanted calls in
+    let sound = fed-kept (answering wanted) Sound sound-turns calls (begunIn freshWorld) sound-fresh in
     let given = sound-accepted (r .state) text (length (r .held)) sound within in
     let unended : hasNewline (take (length (r .held)) text) ≡ false = subst (λ (l : List ℕ). hasNewline l ≡ false) (sym same) none in
     ap (λ (l : List ℕ). r .said ++ l) (
-    finished-in-place (r .state) text (length (r .held)) out given within unended room
-    ∙ ap (λ (l : List ℕ). answers (r .state) (textLines l)) same)
-    ∙ any-chunks calls
+    finished-in-place wanted (r .state) text (length (r .held)) out given within unended room
+    ∙ ap (λ (l : List ℕ). answers wanted (r .state) (textLines l)) same)
+    ∙ any-chunks wanted calls

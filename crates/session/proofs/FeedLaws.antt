@@ -19,6 +19,7 @@ use Rattle.text.specs.Reading.{heldOf}
 use Rattle.text.proofs.ReadingLaws.{taken-rest, taken-used}
 use Rattle.session.specs.World.{World, answering}
 use Rattle.session.specs.Feeding.{takes, linesTaken, feedRefusal, takenFed, heldIn, wantsNewline, endedText, endedAt}
+use Rattle.session.specs.declared.state.Wanted.{Wanted}
 use Rattle.session.specs.declared.calls.Fed.{Fed}
 use Rattle.session.specs.declared.calls.TakenLines.{TakenLines}
 use Rattle.session.proofs.LineLaws.{TakenAs}
@@ -44,41 +45,6 @@ call-accepted bus m p text filled e =
     let so = accepted-by (ltb (length text) filled) (hasWrongBuffers m p) (makesSense bus) e in
     record { filled-within = ltb-false (length text) filled (so .0); fit = so .1 .0; sense = so .1 .1 }
 
--- the lines that are used lie in the filled part
-pub used-within : (w : World) (text out : List ℕ) (filled : ℕ) (lines : TakenLines) → filled ≤ length text
-    → lines ≡ linesTaken (takes (length out) w (take filled text)) → lines .used ≤ filled
-used-within w text out filled lines h e =
-    omega (
-      arith,
-      ap (λ (l : TakenLines). l .used) e,
-      taken-used answering (length out) w (take filled text),
-      length-take-le filled text h,
-    )
-
--- what take_in owes
-abbrev pub FedTaken : World → List ℕ → List ℕ → ℕ → Fed → List ℕ → List ℕ → List ℕ → List ℕ → Type 0
-FedTaken w text out filled fed text' out' m' p' =
-    let t = takes (length out) w (take filled text) in
-    (fed ≡ takenFed t)
-    × ((text' ≡ heldIn text (t .rest)) × ((out' ≡ sets out 0 (t .said)) × ((m' ≡ t .state .memory) × (p' ≡ t .state .ports))))
-
-pub fed-taken : (w : World) (text out : List ℕ) (filled : ℕ) (lines : TakenLines) (held : ℕ) (text' out' m' p' : List ℕ)
-    → TakenAs (takes (length out) w (take filled text)) out lines out' m' p' → held ≡ length (heldOf (drop (lines .used) (take filled text)))
-    → text' ≡ heldOf (drop (lines .used) (take filled text)) ++ drop (length (heldOf (drop (lines .used) (take filled text)))) text
-    → FedTaken w text out filled (record { refusal = Refusal.accepted; session = lines .session; held = held; written = lines .written }) text' out' m' p'
-fed-taken w text out filled lines held text' out' m' p' taken count left =
-    let t = takes (length out) w (take filled text) in
-    let rest : drop (lines .used) (take filled text) ≡ t .rest =
-    ap (λ (l : TakenLines). drop (l .used) (take filled text)) (taken .0)
-    ∙ sym (taken-rest answering (length out) w (take filled text)) in (
-      ap (λ (n : ℕ). fed-by lines n) (count ∙ ap (λ (l : List ℕ). length (heldOf l)) rest)
-          ∙ ap (λ (l : TakenLines). fed-by l (length (heldOf (t .rest)))) (taken .0),
-      (left ∙ ap (heldIn text) rest, taken .1),
-    )
-  where
-    fed-by : TakenLines → ℕ → Fed
-    fed-by l n = record { refusal = Refusal.accepted; session = l .session; held = n; written = l .written }
-
 -- the newline that ends the last line has room
 pub ended-within : (text : List ℕ) (held : ℕ) → held ≤ length text → endedAt text held ≤ length (endedText text held)
 ended-within text held h =
@@ -90,10 +56,46 @@ ended-within text held h =
     (λ (goes-on : wantsNewline text held ≡ false). rw goes-on h)
     (true-or-false (wantsNewline text held))
 
--- what finish owes, from what take_in left of the text that was ended
-pub finished : (w : World) (text out : List ℕ) (held : ℕ) (text₁ : List ℕ) (filled : ℕ) (fed : Fed) (text' out' m' p' : List ℕ)
-    → filled ≡ endedAt text held → text₁ ≡ endedText text held → FedTaken w text₁ out filled fed text' out' m' p'
-    → FedTaken w (endedText text held) out (endedAt text held) fed text' out' m' p'
-finished w text out held text₁ filled fed text' out' m' p' at same taken =
-    subst (λ (l : List ℕ). FedTaken w l out (endedAt text held) fed text' out' m' p') same
-    (subst (λ (n : ℕ). FedTaken w text₁ out n fed text' out' m' p') at taken)
+module _ (wanted : Wanted) where
+  -- the lines that are used lie in the filled part
+  pub used-within : (w : World) (text out : List ℕ) (filled : ℕ) (lines : TakenLines) → filled ≤ length text
+      → lines ≡ linesTaken (takes wanted (length out) w (take filled text)) → lines .used ≤ filled
+  used-within w text out filled lines h e =
+      omega (
+        arith,
+        ap (λ (l : TakenLines). l .used) e,
+        taken-used (answering wanted) (length out) w (take filled text),
+        length-take-le filled text h,
+      )
+
+  -- what take_in owes
+  abbrev pub FedTaken : World → List ℕ → List ℕ → ℕ → Fed → List ℕ → List ℕ → List ℕ → List ℕ → Type 0
+  FedTaken w text out filled fed text' out' m' p' =
+      let t = takes wanted (length out) w (take filled text) in
+      (fed ≡ takenFed t)
+      × ((text' ≡ heldIn text (t .rest)) × ((out' ≡ sets out 0 (t .said)) × ((m' ≡ t .state .memory) × (p' ≡ t .state .ports))))
+
+  pub fed-taken : (w : World) (text out : List ℕ) (filled : ℕ) (lines : TakenLines) (held : ℕ) (text' out' m' p' : List ℕ)
+      → TakenAs (takes wanted (length out) w (take filled text)) out lines out' m' p' → held ≡ length (heldOf (drop (lines .used) (take filled text)))
+      → text' ≡ heldOf (drop (lines .used) (take filled text)) ++ drop (length (heldOf (drop (lines .used) (take filled text)))) text
+      → FedTaken w text out filled (record { refusal = Refusal.accepted; session = lines .session; held = held; written = lines .written }) text' out' m' p'
+  fed-taken w text out filled lines held text' out' m' p' taken count left =
+      let t = takes wanted (length out) w (take filled text) in
+      let rest : drop (lines .used) (take filled text) ≡ t .rest =
+      ap (λ (l : TakenLines). drop (l .used) (take filled text)) (taken .0)
+      ∙ sym (taken-rest (answering wanted) (length out) w (take filled text)) in (
+        ap (λ (n : ℕ). fed-by lines n) (count ∙ ap (λ (l : List ℕ). length (heldOf l)) rest)
+            ∙ ap (λ (l : TakenLines). fed-by l (length (heldOf (t .rest)))) (taken .0),
+        (left ∙ ap (heldIn text) rest, taken .1),
+      )
+    where
+      fed-by : TakenLines → ℕ → Fed
+      fed-by l n = record { refusal = Refusal.accepted; session = l .session; held = n; written = l .written }
+
+  -- what finish owes, from what take_in left of the text that was ended
+  pub finished : (w : World) (text out : List ℕ) (held : ℕ) (text₁ : List ℕ) (filled : ℕ) (fed : Fed) (text' out' m' p' : List ℕ)
+      → filled ≡ endedAt text held → text₁ ≡ endedText text held → FedTaken w text₁ out filled fed text' out' m' p'
+      → FedTaken w (endedText text held) out (endedAt text held) fed text' out' m' p'
+  finished w text out held text₁ filled fed text' out' m' p' at same taken =
+      subst (λ (l : List ℕ). FedTaken w l out (endedAt text held) fed text' out' m' p') same
+      (subst (λ (n : ℕ). FedTaken w text₁ out n fed text' out' m' p') at taken)

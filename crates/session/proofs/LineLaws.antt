@@ -27,15 +27,14 @@ use Rattle.text.specs.Digits.{isDigit}
 use Rattle.text.specs.Newlines.{newline, hasNewline, firstLine, restOf}
 use Rattle.text.specs.Frames.{eventDigits, setupIn, nextLine}
 use Rattle.text.specs.declared.frames.Line.{Line}
-use Rattle.text.specs.AnswerLine.{answerLine, answerLength, printed, bytesPut}
 use Rattle.text.specs.Reading.{Taken}
 use Rattle.text.proofs.NewlineLaws.{splits, unended, line-within}
 use Rattle.text.proofs.FrameLaws.{Framed, framed, Spoilt, spoilt, not-ended}
-use Rattle.text.proofs.ReadingLaws.{printed-fits, bytes-fit, answer-long}
-use Rattle.session.specs.World.{World, world, saysBy, turnsBy, setUpBy, setupAnswer, stageAfter}
+use Rattle.session.specs.World.{World, world, replyAs, eventAs, saysBy, turnsBy, setUpBy, setupAnswer, stageAfter}
 use Rattle.session.specs.Feeding.{takesFirst, linesTaken, told}
 use Rattle.session.specs.declared.state.Stage.{Stage}
 use Rattle.session.specs.declared.state.Stage.the-variants.{Awaiting, Running, Ended}
+use Rattle.session.specs.declared.state.Wanted.{Wanted}
 use Rattle.session.specs.declared.calls.TakenLines.{TakenLines}
 
 -- what a function that takes lines owes: what it tells, and what it leaves of the place for the answers, of memory and of ports
@@ -43,80 +42,12 @@ abbrev pub TakenAs : Taken World → List ℕ → TakenLines → List ℕ → Li
 TakenAs t out lines out' m' p' =
     (lines ≡ linesTaken t) × ((out' ≡ sets out 0 (t .said)) × ((m' ≡ t .state .memory) × (p' ≡ t .state .ports)))
 
--- ---- The answer has room
-
-module _ (a : Answer) (out : List ℕ) (room : answerLength ≤ length out) where
-  answer-written : (written : ℕ) → written ≡ bytesPut out → written ≡ length (answerLine a)
-  answer-written written e = e ∙ bytes-fit out room ∙ sym (answer-long a)
-
-  answer-put : (out' : List ℕ) → out' ≡ printed a out → out' ≡ sets out 0 (answerLine a)
-  answer-put out' e = e ∙ printed-fits a out room
-
--- ---- Event lines
-
 abbrev pub running : Machine → World
 running m = world Running (m .bus) (m .memory) (m .ports)
 
 -- what an event line of so many bytes leaves
 abbrev leaves : List ℕ → Machine → List ℕ → ℕ → Taken World
 leaves text left bytes size = record { state = running left; said = bytes; used = size; rest = restOf text }
-
-event-framed : (m : Machine) (text : List ℕ) (event : Event) → Framed text event
-    → takesFirst (running m) text ≡ leaves text (after m event) (answerLine (answerTo m event)) (suc eventDigits)
-unfolding saysBy turnsBy
-event-framed m text event f =
-    let size : length (firstLine text) ≡ eventDigits =
-    eqb-true (length (firstLine text)) eventDigits
-    (both-of (eqb (length (firstLine text)) eventDigits) (everyListed isDigit (firstLine text)) (f .right) .0) in
-    rw (f .has, f .right, f .same, size) refl
-
-event-spoilt : (m : Machine) (text : List ℕ) (size : ℕ) → Spoilt text size
-    → takesFirst (running m) text ≡ leaves text m (answerLine (bare badLine)) (size + 1)
-unfolding saysBy turnsBy
-event-spoilt m text size f =
-    let one : suc (length (firstLine text)) ≡ size + 1 = omega (arith, f .same) in
-    rw (f .has, f .wrong, one) refl
-
--- such a line was taken, where its answer was put
-line-as : (t : Taken World) (text out : List ℕ) (left : Machine) (a : Answer) (size : ℕ) → t ≡ leaves text left (answerLine a) size
-    → answerLength ≤ length out → (written : ℕ) (out' : List ℕ) → written ≡ bytesPut out → out' ≡ printed a out
-    → TakenAs t out (told Running (left .bus) size written) out' (left .memory) (left .ports)
-line-as t text out left a size e room written out' count put =
-    rw (e, answer-written a out room written count) (refl, (answer-put a out room out' put, (refl, refl)))
-
-module _ (bus : Bus) (m p rest out : List ℕ) (room : answerLength ≤ length out) (written : ℕ) (out' : List ℕ) (count : written ≡ bytesPut out) where
-  pub frame-taken : (event : Event) → Line.Frame event ≡ nextLine rest → hasWrongBuffers m p ≡ false → makesSense bus ≡ true
-      → (s : Stepped) (m' p' : List ℕ) → s ≡ stepped (soundAfter (machine bus m p) event .bus) (soundAnswer (machine bus m p) event)
-      → m' ≡ soundAfter (machine bus m p) event .memory → p' ≡ soundAfter (machine bus m p) event .ports → out' ≡ printed (s .answer) out
-      → TakenAs (takesFirst (world Running bus m p) rest) out (told Running (s .bus) (suc eventDigits) written) out' m' p'
-  frame-taken event e fit sense s m' p' is mem por put =
-      let step = sound-step-is-the-step (machine bus m p) event fit sense in
-      let left = after (machine bus m p) event in
-      let same : s ≡ stepped (left .bus) (answerTo (machine bus m p) event) =
-      is ∙ ap (λ (x : Machine). stepped (x .bus) (soundAnswer (machine bus m p) event)) (step .0) ∙ ap (stepped (left .bus)) (step .1) in
-      rw (
-        ap (λ (x : Stepped). x .bus) same,
-        mem ∙ ap (λ (x : Machine). x .memory) (step .0),
-        por ∙ ap (λ (x : Machine). x .ports) (step .0),
-      ) (
-      line-as (takesFirst (world Running bus m p) rest) rest out left (answerTo (machine bus m p) event) (suc eventDigits)
-      (event-framed (machine bus m p) rest event (framed rest event e)) room written out' count
-      (put ∙ ap (λ (x : Stepped). printed (x .answer) out) same))
-
-  pub bad-taken : (size : ℕ) → Line.Bad size ≡ nextLine rest → (a : Answer) → a ≡ bare badLine → out' ≡ printed a out
-      → TakenAs (takesFirst (world Running bus m p) rest) out (told Running bus (size + 1) written) out' m p
-  bad-taken size e a is put =
-      line-as (takesFirst (world Running bus m p) rest) rest out (machine bus m p) (bare badLine) (size + 1)
-      (event-spoilt (machine bus m p) rest size (spoilt rest size e)) room written out' count (put ∙ ap (λ (x : Answer). printed x out) is)
-
--- no line has ended
-pub none-taken : (w : World) (text out : List ℕ) → hasNewline text ≡ false
-    → TakenAs (takesFirst w text) out (record { session = w .session; used = 0; written = 0 }) out (w .memory) (w .ports)
-none-taken w text out none = rw none (refl, (refl, (refl, refl)))
-
-pub none-ended : (bus : Bus) (m p rest out : List ℕ) → Line.Unended ≡ nextLine rest
-    → TakenAs (takesFirst (world Running bus m p) rest) out (told Running bus 0 0) out m p
-none-ended bus m p rest out e = none-taken (world Running bus m p) rest out (not-ended rest e)
 
 -- ---- Where a line ends
 
@@ -134,58 +65,122 @@ ends-beyond : (text : List ℕ) (end : ℕ) → end ≡ length (firstLine text) 
 ends-beyond text end e beyond =
     ⊎-elim (λ has. absurd (omega (arith, e, beyond, line-within text has))) (λ none. none) (true-or-false (hasNewline text))
 
--- ---- The setup line, and lines after a refused one: they go by neither memory nor ports
+module _ (wanted : Wanted) where
+  -- ---- Event lines
 
--- what a function that isn't given these owes
-abbrev pub TakenAlone : Stage → Bus → List ℕ → List ℕ → TakenLines → List ℕ → Type 0
-TakenAlone stage bus text out lines out' =
-    ((m p : List ℕ) → lines ≡ linesTaken (takesFirst (world stage bus m p) text))
-    × ((m p : List ℕ) → out' ≡ sets out 0 (takesFirst (world stage bus m p) text .said))
+  event-framed : (m : Machine) (text : List ℕ) (event : Event) → Framed text event
+      → takesFirst wanted (running m) text ≡ leaves text (after m event) (eventAs wanted event (answerTo m event)) (suc eventDigits)
+  unfolding saysBy turnsBy
+  event-framed m text event f =
+      let size : length (firstLine text) ≡ eventDigits =
+      eqb-true (length (firstLine text)) eventDigits
+      (both-of (eqb (length (firstLine text)) eventDigits) (everyListed isDigit (firstLine text)) (f .right) .0) in
+      rw (f .has, f .right, f .same, size) refl
 
-pub setup-taken : (bus : Bus) (text out : List ℕ) (end : ℕ) → end ≡ length (firstLine text) → end < length text → answerLength ≤ length out
-    → (given : SetupAnswer) (written : ℕ) (out' : List ℕ) → given ≡ setUpBy (setupIn (take end text)) → written ≡ bytesPut out
-    → out' ≡ printed (setupAnswer given) out → TakenAlone Awaiting bus text out (told (stageAfter given) (given .bus) (end + 1) written) out'
-unfolding saysBy turnsBy
-setup-taken bus text out end e within room given written out' is count put =
-    let has = ends-within text end e within in
-    let line : take end text ≡ firstLine text = ap (λ (k : ℕ). take k text) e ∙ line-front text has in
-    let size : suc (length (firstLine text)) ≡ end + 1 = omega (arith, e) in
-    let same : setUpBy (setupIn (firstLine text)) ≡ given = sym (is ∙ ap (λ (l : List ℕ). setUpBy (setupIn l)) line) in
-    let bytes = answer-written (setupAnswer given) out room written count in
-    rw (has, same, size, bytes) ((λ m p. refl), (λ m p. answer-put (setupAnswer given) out room out' put))
+  event-spoilt : (m : Machine) (text : List ℕ) (size : ℕ) → Spoilt text size
+      → takesFirst wanted (running m) text ≡ leaves text m (replyAs wanted (bare badLine)) (size + 1)
+  unfolding saysBy turnsBy
+  event-spoilt m text size f =
+      let one : suc (length (firstLine text)) ≡ size + 1 = omega (arith, f .same) in
+      rw (f .has, f .wrong, one) refl
 
-pub passed : (bus : Bus) (text : List ℕ) (end : ℕ) → end ≡ length (firstLine text) → end < length text → (m p : List ℕ)
-    → told Ended bus (end + 1) 0 ≡ linesTaken (takesFirst (world Ended bus m p) text)
-unfolding saysBy turnsBy
-passed bus text end e within m p =
-    let size : suc (length (firstLine text)) ≡ end + 1 = omega (arith, e) in rw (ends-within text end e within, size) refl
+  -- such a line was taken, where these bytes were put
+  line-as : (t : Taken World) (text out : List ℕ) (left : Machine) (bytes : List ℕ) (size : ℕ) → t ≡ leaves text left bytes size
+      → (written : ℕ) (out' : List ℕ) → written ≡ length bytes → out' ≡ sets out 0 bytes
+      → TakenAs t out (told Running (left .bus) size written) out' (left .memory) (left .ports)
+  line-as t text out left bytes size e written out' count put = rw (e, count) (refl, (put, (refl, refl)))
 
-pub not-taken : (stage : Stage) (bus : Bus) (text out : List ℕ) (end : ℕ) → end ≡ length (firstLine text) → length text ≤ end
-    → TakenAlone stage bus text out (told stage bus 0 0) out
-not-taken stage bus text out end e beyond = rw (ends-beyond text end e beyond) ((λ m p. refl), (λ m p. refl))
+  module _ (bus : Bus) (m p rest out : List ℕ) (written : ℕ) (out' : List ℕ) where
+    pub frame-taken : (event : Event) → Line.Frame event ≡ nextLine rest → hasWrongBuffers m p ≡ false → makesSense bus ≡ true
+        → (s : Stepped) (m' p' : List ℕ) → s ≡ stepped (soundAfter (machine bus m p) event .bus) (soundAnswer (machine bus m p) event)
+        → m' ≡ soundAfter (machine bus m p) event .memory → p' ≡ soundAfter (machine bus m p) event .ports
+        → written ≡ length (eventAs wanted event (s .answer)) → out' ≡ sets out 0 (eventAs wanted event (s .answer))
+        → TakenAs (takesFirst wanted (world Running bus m p) rest) out (told Running (s .bus) (suc eventDigits) written) out' m' p'
+    frame-taken event e fit sense s m' p' is mem por count put =
+        let step = sound-step-is-the-step (machine bus m p) event fit sense in
+        let left = after (machine bus m p) event in
+        let same : s ≡ stepped (left .bus) (answerTo (machine bus m p) event) =
+        is ∙ ap (λ (x : Machine). stepped (x .bus) (soundAnswer (machine bus m p) event)) (step .0) ∙ ap (stepped (left .bus)) (step .1) in
+        let bytes = eventAs wanted event (answerTo (machine bus m p) event) in
+        rw (
+          ap (λ (x : Stepped). x .bus) same,
+          mem ∙ ap (λ (x : Machine). x .memory) (step .0),
+          por ∙ ap (λ (x : Machine). x .ports) (step .0),
+        ) (
+        line-as (takesFirst wanted (world Running bus m p) rest) rest out left bytes (suc eventDigits)
+        (event-framed (machine bus m p) rest event (framed rest event e)) written out'
+        (count ∙ ap (λ (x : Stepped). length (eventAs wanted event (x .answer))) same)
+        (put ∙ ap (λ (x : Stepped). sets out 0 (eventAs wanted event (x .answer))) same))
 
--- ---- By the stage
+    pub bad-taken : (size : ℕ) → Line.Bad size ≡ nextLine rest → (a : Answer) → a ≡ bare badLine
+        → written ≡ length (replyAs wanted a) → out' ≡ sets out 0 (replyAs wanted a)
+        → TakenAs (takesFirst wanted (world Running bus m p) rest) out (told Running bus (size + 1) written) out' m p
+    bad-taken size e a is count put =
+        line-as (takesFirst wanted (world Running bus m p) rest) rest out (machine bus m p) (replyAs wanted (bare badLine)) (size + 1)
+        (event-spoilt (machine bus m p) rest size (spoilt rest size e)) written out' (count ∙ ap (λ (x : Answer). length (replyAs wanted x)) is)
+        (put ∙ ap (λ (x : Answer). sets out 0 (replyAs wanted x)) is)
 
-abbrev Keeps : Stage → Bus → List ℕ → Type 0
-Keeps stage bus text =
-    (m p : List ℕ)
-    → (m ≡ takesFirst (world stage bus m p) text .state .memory) × (p ≡ takesFirst (world stage bus m p) text .state .ports)
+  -- no line has ended
+  pub none-taken : (w : World) (text out : List ℕ) → hasNewline text ≡ false
+      → TakenAs (takesFirst wanted w text) out (record { session = w .session; used = 0; written = 0 }) out (w .memory) (w .ports)
+  none-taken w text out none = rw none (refl, (refl, (refl, refl)))
 
-pub awaiting-keeps : (bus : Bus) (text : List ℕ) → Keeps Awaiting bus text
-unfolding turnsBy
-awaiting-keeps bus text m p = ⊎-elim (λ has. rw has (refl, refl)) (λ none. rw none (refl, refl)) (true-or-false (hasNewline text))
+  pub none-ended : (bus : Bus) (m p rest out : List ℕ) → Line.Unended ≡ nextLine rest
+      → TakenAs (takesFirst wanted (world Running bus m p) rest) out (told Running bus 0 0) out m p
+  none-ended bus m p rest out e = none-taken (world Running bus m p) rest out (not-ended rest e)
 
-pub ended-keeps : (bus : Bus) (text : List ℕ) → Keeps Ended bus text
-unfolding turnsBy
-ended-keeps bus text m p = ⊎-elim (λ has. rw has (refl, refl)) (λ none. rw none (refl, refl)) (true-or-false (hasNewline text))
+  -- ---- The setup line, and lines after a refused one: they go by neither memory nor ports
 
--- once the run has ended nothing is said
-pub ended-silent : (bus : Bus) (m p text out : List ℕ) → out ≡ sets out 0 (takesFirst (world Ended bus m p) text .said)
-unfolding saysBy
-ended-silent bus m p text out = ⊎-elim (λ has. rw has refl) (λ none. rw none refl) (true-or-false (hasNewline text))
+  -- what a function that isn't given these owes
+  abbrev pub TakenAlone : Stage → Bus → List ℕ → List ℕ → TakenLines → List ℕ → Type 0
+  TakenAlone stage bus text out lines out' =
+      ((m p : List ℕ) → lines ≡ linesTaken (takesFirst wanted (world stage bus m p) text))
+      × ((m p : List ℕ) → out' ≡ sets out 0 (takesFirst wanted (world stage bus m p) text .said))
 
--- the stage that was found
-pub at-stage : (stage found : Stage) (bus : Bus) (m p text out : List ℕ) (lines : TakenLines) (out' m' p' : List ℕ) → stage ≡ found
-    → TakenAs (takesFirst (world found bus m p) text) out lines out' m' p' → TakenAs (takesFirst (world stage bus m p) text) out lines out' m' p'
-at-stage stage found bus m p text out lines out' m' p' e =
-    subst (λ (s : Stage). TakenAs (takesFirst (world s bus m p) text) out lines out' m' p') (sym e)
+  pub setup-taken : (bus : Bus) (text out : List ℕ) (end : ℕ) → end ≡ length (firstLine text) → end < length text
+      → (given : SetupAnswer) (written : ℕ) (out' : List ℕ) → given ≡ setUpBy (setupIn (take end text))
+      → written ≡ length (replyAs wanted (setupAnswer given)) → out' ≡ sets out 0 (replyAs wanted (setupAnswer given))
+      → TakenAlone Awaiting bus text out (told (stageAfter given) (given .bus) (end + 1) written) out'
+  unfolding saysBy turnsBy
+  setup-taken bus text out end e within given written out' is count put =
+      let has = ends-within text end e within in
+      let line : take end text ≡ firstLine text = ap (λ (k : ℕ). take k text) e ∙ line-front text has in
+      let size : suc (length (firstLine text)) ≡ end + 1 = omega (arith, e) in
+      let same : setUpBy (setupIn (firstLine text)) ≡ given = sym (is ∙ ap (λ (l : List ℕ). setUpBy (setupIn l)) line) in
+      rw (has, same, size, count) ((λ m p. refl), (λ m p. put))
+
+  pub passed : (bus : Bus) (text : List ℕ) (end : ℕ) → end ≡ length (firstLine text) → end < length text → (m p : List ℕ)
+      → told Ended bus (end + 1) 0 ≡ linesTaken (takesFirst wanted (world Ended bus m p) text)
+  unfolding saysBy turnsBy
+  passed bus text end e within m p =
+      let size : suc (length (firstLine text)) ≡ end + 1 = omega (arith, e) in rw (ends-within text end e within, size) refl
+
+  pub not-taken : (stage : Stage) (bus : Bus) (text out : List ℕ) (end : ℕ) → end ≡ length (firstLine text) → length text ≤ end
+      → TakenAlone stage bus text out (told stage bus 0 0) out
+  not-taken stage bus text out end e beyond = rw (ends-beyond text end e beyond) ((λ m p. refl), (λ m p. refl))
+
+  -- ---- By the stage
+
+  abbrev Keeps : Stage → Bus → List ℕ → Type 0
+  Keeps stage bus text =
+      (m p : List ℕ)
+      → (m ≡ takesFirst wanted (world stage bus m p) text .state .memory) × (p ≡ takesFirst wanted (world stage bus m p) text .state .ports)
+
+  pub awaiting-keeps : (bus : Bus) (text : List ℕ) → Keeps Awaiting bus text
+  unfolding turnsBy
+  awaiting-keeps bus text m p = ⊎-elim (λ has. rw has (refl, refl)) (λ none. rw none (refl, refl)) (true-or-false (hasNewline text))
+
+  pub ended-keeps : (bus : Bus) (text : List ℕ) → Keeps Ended bus text
+  unfolding turnsBy
+  ended-keeps bus text m p = ⊎-elim (λ has. rw has (refl, refl)) (λ none. rw none (refl, refl)) (true-or-false (hasNewline text))
+
+  -- once the run has ended nothing is said
+  pub ended-silent : (bus : Bus) (m p text out : List ℕ) → out ≡ sets out 0 (takesFirst wanted (world Ended bus m p) text .said)
+  unfolding saysBy
+  ended-silent bus m p text out = ⊎-elim (λ has. rw has refl) (λ none. rw none refl) (true-or-false (hasNewline text))
+
+  -- the stage that was found
+  pub at-stage : (stage found : Stage) (bus : Bus) (m p text out : List ℕ) (lines : TakenLines) (out' m' p' : List ℕ) → stage ≡ found
+      → TakenAs (takesFirst wanted (world found bus m p) text) out lines out' m' p' → TakenAs (takesFirst wanted (world stage bus m p) text) out lines out' m' p'
+  at-stage stage found bus m p text out lines out' m' p' e =
+      subst (λ (s : Stage). TakenAs (takesFirst wanted (world s bus m p) text) out lines out' m' p') (sym e)

@@ -25,8 +25,9 @@ use Rattle.bus.specs.declared.state.Bus.{Bus}
 use Rattle.bus.specs.declared.state.SetupAnswer.{SetupAnswer}
 use Rattle.events.specs.Machine.{Machine, machine}
 use Rattle.events.specs.Answers.{answerWith, bare}
-use Rattle.events.specs.Step.{refusalIn}
-use Rattle.events.proofs.Refused.{refused-keeps}
+use Rattle.judgement.specs.declared.event.Event.{Event}
+use Rattle.events.specs.Step.{refusalIn, answerTo}
+use Rattle.events.proofs.Refused.{refused-keeps, answers-refusal}
 use Rattle.text.specs.Digits.{isDigit, isDigits, valueOf, digitsOf}
 use Rattle.text.specs.Newlines.{lastLine, linesAfter, textLines}
 use Rattle.text.specs.Frames.{eventDigits, eventIn, setupDigits, longest, setupIn, digitsFrom, pagesIn, chassisIn}
@@ -34,12 +35,15 @@ use Rattle.text.specs.AnswerLine.{answerLine, answerLength}
 use Rattle.text.specs.Reading.{answersTo, mostHeld}
 use Rattle.text.specs.declared.frames.SetupLine.{SetupLine}
 use Rattle.text.proofs.ReadingLaws.{answer-long}
-use Rattle.session.specs.World.{World, world, says, turns, saysBy, turnsBy, setUpBy, setupAnswer, eventAnswer, afterEvent, freshWorld}
+use Rattle.pins.proofs.DigitLaws.{no-picture}
+use Rattle.session.specs.World.{World, world, says, turns, saysBy, turnsBy, setUpBy, setupAnswer, afterEvent, freshWorld}
 use Rattle.session.specs.Output.{answers}
-use Rattle.session.specs.Promises.{EventTakesItsStep, BadLineAnswers, RefusedLineKeeps, AcceptedSetupLeads, RefusedSetupEnds}
+use Rattle.session.specs.Promises.{EventTakesItsStep, BadLineAnswers, LinePictured, RefusedLineKeeps, AcceptedSetupLeads, RefusedSetupEnds}
 use Rattle.session.specs.Promises.{EndedStays, CutChangesNothing, EmptyPrintsNothing, OneAnswerALine, StartsAtZero, setupNumber, answered}
 use Rattle.session.specs.declared.state.Stage.{Stage}
 use Rattle.session.specs.declared.state.Stage.the-variants.{Awaiting, Running, Ended}
+use Rattle.session.specs.declared.state.Wanted.{Wanted}
+use Rattle.session.specs.declared.state.Wanted.the-variants.{Answers, Pictures}
 use Rattle.bus.proofs.SetUp.{setup-accepts}
 
 -- ---- Events
@@ -51,6 +55,19 @@ event-takes-its-step m line right = rw right (refl, refl)
 pub bad-line-answers : BadLineAnswers
 unfolding saysBy
 bad-line-answers m line wrong = rw wrong refl
+
+-- a refused event is answered its number
+refused-number : (m : Machine) (event : Event) → (refusalIn m event ≡ Refusal.accepted → ⊥) → answerTo m event .refusal ≡ Refusal.accepted → ⊥
+refused-number m event refused e = refused (sym (answers-refusal m event) ∙ e)
+
+pub line-pictured : LinePictured
+unfolding saysBy
+line-pictured m line = record {
+  accepted = λ right taken. rw right refl;
+  refused = λ right refused. rw right (no-picture (eventIn line) (answerTo m (eventIn line)) (refused-number m (eventIn line) refused));
+  bad = λ wrong. rw wrong refl;
+  setup = refl;
+}
 
 -- a bad line keeps the machine, and so does a refused event
 kept-after : (m : Machine) (line : List ℕ) → (isDigits eventDigits line ≡ false) ⊎ (refusalIn m (eventIn line) ≡ Refusal.accepted → ⊥)
@@ -96,7 +113,7 @@ module _ (line : List ℕ) (right : isDigits setupDigits line ≡ true) (low : (
       answered-with n bus = record { answer = n; bus = bus }
 
   accepted-says : (bus : Bus) (m p : List ℕ)
-      → says (world Awaiting bus m p) line ≡ answerLine (answerWith Refusal.accepted (freeBus (chassisIn line)) (signalsIn Phase.free) 0 nothing)
+      → says Answers (world Awaiting bus m p) line ≡ answerLine (answerWith Refusal.accepted (freeBus (chassisIn line)) (signalsIn Phase.free) 0 nothing)
   unfolding saysBy
   accepted-says bus m p = rw set-up-as-written refl
 
@@ -132,10 +149,10 @@ refused-empty line refused = go (eqb (line .refusal) Refusal.accepted) refl (cod
     go true r false k = rw (r, k) refl
     go false r known k = rw r refl
 
-ended-silent : (bus : Bus) (m p : List ℕ) (lines : List (List ℕ)) → answers (world Ended bus m p) lines ≡ []
+ended-silent : (wanted : Wanted) (bus : Bus) (m p : List ℕ) (lines : List (List ℕ)) → answers wanted (world Ended bus m p) lines ≡ []
 unfolding answersTo saysBy turnsBy
-ended-silent bus m p [] = refl
-ended-silent bus m p (line ∷ lines) = ended-silent bus m p lines
+ended-silent wanted bus m p [] = refl
+ended-silent wanted bus m p (line ∷ lines) = ended-silent wanted bus m p lines
 
 refused-turn : (bus : Bus) (m p line : List ℕ) → (setupNumber line ≡ Refusal.accepted → ⊥)
     → turns (world Awaiting bus m p) line ≡ world Ended emptyBus m p
@@ -144,27 +161,27 @@ refused-turn bus m p line refused =
     rw (refused-empty (setupIn line) refused, ne-eqb (setupNumber line) Refusal.accepted refused) refl
 
 refused-says : (bus : Bus) (m p line : List ℕ) → (setupNumber line ≡ Refusal.accepted → ⊥)
-    → says (world Awaiting bus m p) line ≡ answerLine (bare (setupNumber line))
+    → says Answers (world Awaiting bus m p) line ≡ answerLine (bare (setupNumber line))
 unfolding saysBy
 refused-says bus m p line refused = rw (ne-eqb (setupNumber line) Refusal.accepted refused) refl
 
-pub one-said : (w : World) (line : List ℕ) (lines : List (List ℕ)) → answers w (line ∷ lines) ≡ says w line ++ answers (turns w line) lines
+pub one-said : (wanted : Wanted) (w : World) (line : List ℕ) (lines : List (List ℕ)) → answers wanted w (line ∷ lines) ≡ says wanted w line ++ answers wanted (turns w line) lines
 unfolding answersTo
-one-said w line lines = refl
+one-said wanted w line lines = refl
 
 pub refused-setup-ends : RefusedSetupEnds
 refused-setup-ends bus m p line lines refused = (
-  one-said (world Awaiting bus m p) line lines
-      ∙ ap (λ (w : World). says (world Awaiting bus m p) line ++ answers w lines) (refused-turn bus m p line refused)
-      ∙ ap (λ (l : List ℕ). says (world Awaiting bus m p) line ++ l) (ended-silent emptyBus m p lines)
-      ∙ append-nil (says (world Awaiting bus m p) line)
+  one-said Answers (world Awaiting bus m p) line lines
+      ∙ ap (λ (w : World). says Answers (world Awaiting bus m p) line ++ answers Answers w lines) (refused-turn bus m p line refused)
+      ∙ ap (λ (l : List ℕ). says Answers (world Awaiting bus m p) line ++ l) (ended-silent Answers emptyBus m p lines)
+      ∙ append-nil (says Answers (world Awaiting bus m p) line)
       ∙ refused-says bus m p line refused,
   refused-turn bus m p line refused,
 )
 
 pub ended-stays : EndedStays
 unfolding saysBy turnsBy
-ended-stays w line e = rw e (refl, refl)
+ended-stays wanted w line e = rw e (refl, refl)
 
 -- ---- What lies beyond the longest right line
 
@@ -193,12 +210,12 @@ cut-event P line whole long =
 
 pub cut-changes-nothing : CutChangesNothing
 unfolding saysBy turnsBy
-cut-changes-nothing w line = go (w .session .stage) refl
+cut-changes-nothing wanted w line = go (w .session .stage) refl
   where
-    go : (stage : Stage) → w .session .stage ≡ stage → (says w (take mostHeld line) ≡ says w line) × (turns w (take mostHeld line) ≡ turns w line)
+    go : (stage : Stage) → w .session .stage ≡ stage → (says wanted w (take mostHeld line) ≡ says wanted w line) × (turns w (take mostHeld line) ≡ turns w line)
     go Awaiting e = rw (e, cut-setup line) (refl, refl)
     go Running e =
-        rw e (cut-event (λ l. (saysBy Running w l ≡ saysBy Running w line) × (turnsBy Running w l ≡ turnsBy Running w line)) line (refl, refl)
+        rw e (cut-event (λ l. (saysBy wanted Running w l ≡ saysBy wanted Running w line) × (turnsBy Running w l ≡ turnsBy Running w line)) line (refl, refl)
         (λ wrong bad. rw (wrong, bad) (refl, refl)))
     go Ended e = rw e (refl, refl)
 
@@ -206,52 +223,53 @@ cut-changes-nothing w line = go (w .session .stage) refl
 
 pub empty-prints-nothing : EmptyPrintsNothing
 unfolding linesAfter lastLine answersTo
-empty-prints-nothing = refl
+empty-prints-nothing wanted = refl
 
-pub none-said : (w : World) → answers w [] ≡ []
+pub none-said : (wanted : Wanted) (w : World) → answers wanted w [] ≡ []
 unfolding answersTo
-none-said w = refl
+none-said wanted w = refl
 
-running-says : (bus : Bus) (m p line : List ℕ) → length (says (world Running bus m p) line) ≡ answerLength
+running-says : (bus : Bus) (m p line : List ℕ) → length (says Answers (world Running bus m p) line) ≡ answerLength
 unfolding saysBy
-running-says bus m p line = answer-long (eventAnswer (machine bus m p) line)
+running-says bus m p line = ⊎-elim (λ right. rw right (answer-long (answerTo (machine bus m p) (eventIn line)))) (λ wrong. rw wrong (answer-long (bare Refusal.badLine)))
+    (true-or-false (isDigits eventDigits line))
 
 running-turn : (bus : Bus) (m p line : List ℕ) (lines : List (List ℕ))
-    → ((b : Bus) (n q : List ℕ) → length (answers (world Running b n q) lines) ≡ length lines * answerLength)
-    → length (answers (turns (world Running bus m p) line) lines) ≡ length lines * answerLength
+    → ((b : Bus) (n q : List ℕ) → length (answers Answers (world Running b n q) lines) ≡ length lines * answerLength)
+    → length (answers Answers (turns (world Running bus m p) line) lines) ≡ length lines * answerLength
 unfolding turnsBy
 running-turn bus m p line lines so = so _ _ _
 
 running-long : (lines : List (List ℕ)) (bus : Bus) (m p : List ℕ)
-    → length (answers (world Running bus m p) lines) ≡ length lines * answerLength
-running-long [] bus m p = ap length (none-said (world Running bus m p))
+    → length (answers Answers (world Running bus m p) lines) ≡ length lines * answerLength
+running-long [] bus m p = ap length (none-said Answers (world Running bus m p))
 running-long (line ∷ lines) bus m p =
-    ap length (one-said (world Running bus m p) line lines)
-    ∙ length-append (says (world Running bus m p) line) (answers (turns (world Running bus m p) line) lines)
+    ap length (one-said Answers (world Running bus m p) line lines)
+    ∙ length-append (says Answers (world Running bus m p) line) (answers Answers (turns (world Running bus m p) line) lines)
     ∙ omega (arith, running-says bus m p line, running-turn bus m p line lines (running-long lines))
 
 -- after an accepted setup every line is an event
 accepted-turn : (bus : Bus) (m p line : List ℕ) (lines : List (List ℕ)) → setupNumber line ≡ Refusal.accepted
-    → length (answers (turns (world Awaiting bus m p) line) lines) ≡ length lines * answerLength
+    → length (answers Answers (turns (world Awaiting bus m p) line) lines) ≡ length lines * answerLength
 unfolding turnsBy
 accepted-turn bus m p line lines taken = rw (eq-eqb (setupNumber line) Refusal.accepted taken) (running-long lines _ m p)
 
-awaiting-says : (bus : Bus) (m p line : List ℕ) → length (says (world Awaiting bus m p) line) ≡ answerLength
+awaiting-says : (bus : Bus) (m p line : List ℕ) → length (says Answers (world Awaiting bus m p) line) ≡ answerLength
 unfolding saysBy
 awaiting-says bus m p line = answer-long (setupAnswer (setUpBy (setupIn line)))
 
 awaiting-long : (bus : Bus) (m p : List ℕ) (lines : List (List ℕ))
-    → length (answers (world Awaiting bus m p) lines) ≡ answered lines * answerLength
+    → length (answers Answers (world Awaiting bus m p) lines) ≡ answered lines * answerLength
 unfolding answered
-awaiting-long bus m p [] = ap length (none-said (world Awaiting bus m p))
+awaiting-long bus m p [] = ap length (none-said Answers (world Awaiting bus m p))
 awaiting-long bus m p (line ∷ lines) = go (ℕ-discrete (setupNumber line) Refusal.accepted)
   where
     go : Dec (setupNumber line ≡ Refusal.accepted)
-        → length (answers (world Awaiting bus m p) (line ∷ lines)) ≡ answered (line ∷ lines) * answerLength
+        → length (answers Answers (world Awaiting bus m p) (line ∷ lines)) ≡ answered (line ∷ lines) * answerLength
     go (yes taken) =
         rw (eq-eqb (setupNumber line) Refusal.accepted taken) (
-        ap length (one-said (world Awaiting bus m p) line lines)
-        ∙ length-append (says (world Awaiting bus m p) line) (answers (turns (world Awaiting bus m p) line) lines)
+        ap length (one-said Answers (world Awaiting bus m p) line lines)
+        ∙ length-append (says Answers (world Awaiting bus m p) line) (answers Answers (turns (world Awaiting bus m p) line) lines)
         ∙ omega (arith, awaiting-says bus m p line, accepted-turn bus m p line lines taken))
     go (no refused) =
         rw (ne-eqb (setupNumber line) Refusal.accepted refused) (

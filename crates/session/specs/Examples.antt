@@ -15,6 +15,7 @@ use Rattle.session.specs.World.{fresh}
 use Rattle.session.specs.Feeding.{feedRefusal}
 use Rattle.session.specs.Output.{output}
 use Rattle.session.specs.declared.state.Stage.the-variants.{Awaiting}
+use Rattle.session.specs.declared.state.Wanted.the-variants.{Answers, Pictures}
 
 -- 01's setup line with a page code 3, a digit short, and with a lower-case letter
 abbrev pub page3 : List ℕ
@@ -37,18 +38,18 @@ abbrev pub lineRefused : List ℕ
 lineRefused = 0x30 ∷ 0x43 ∷ 0x30 ∷ 0x30 ∷ 0x30 ∷ 0x30 ∷ 0x30 ∷ 0x30 ∷ 0x30 ∷ 0x30 ∷ 0x30 ∷ 0x30 ∷ 0x30 ∷ 0x30 ∷ 0x30 ∷ 0x30 ∷ 0x30 ∷ 0x30 ∷ 0x0A ∷ []
 
 pub record SetupOutputs : Type 0 where
-  pub accepted : output (setup ++ newline ∷ []) ≡ freeLine
+  pub accepted : output Answers (setup ++ newline ∷ []) ≡ freeLine
   -- also where the end of the input ends the line
-  pub unended : output setup ≡ freeLine
+  pub unended : output Answers setup ≡ freeLine
   -- Whatever follows a refused setup line is not answered.
-  pub page : output (page3 ++ newline ∷ setup ++ newline ∷ []) ≡ pageRefused
-  pub tooShort : output (short ++ newline ∷ setup ++ newline ∷ []) ≡ lineRefused
-  pub lowerCase : output (lower ++ newline ∷ setup ++ newline ∷ []) ≡ lineRefused
-  pub blank : output (newline ∷ setup ++ newline ∷ []) ≡ lineRefused
+  pub page : output Answers (page3 ++ newline ∷ setup ++ newline ∷ []) ≡ pageRefused
+  pub tooShort : output Answers (short ++ newline ∷ setup ++ newline ∷ []) ≡ lineRefused
+  pub lowerCase : output Answers (lower ++ newline ∷ setup ++ newline ∷ []) ≡ lineRefused
+  pub blank : output Answers (newline ∷ setup ++ newline ∷ []) ≡ lineRefused
 
 -- After setup each bad line has its answer: an empty one, one like a setup line, and an unended one.
 pub record BadLineOutputs : Type 0 where
-  pub each : output (setup ++ newline ∷ newline ∷ setup ++ newline ∷ 0x30 ∷ []) ≡ freeLine ++ lineRefused ++ lineRefused ++ lineRefused
+  pub each : output Answers (setup ++ newline ∷ newline ∷ setup ++ newline ∷ 0x30 ∷ []) ≡ freeLine ++ lineRefused ++ lineRefused ++ lineRefused
 
 -- ---- A session before its first line, and the refusals of a call
 

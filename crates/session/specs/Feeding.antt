@@ -15,20 +15,21 @@ use Rattle.text.specs.Reading.{Taken, firstTaken, takenOff, heldOf}
 use Rattle.session.specs.World.{World, mostSaid, answering}
 use Rattle.session.specs.declared.state.Stage.{Stage}
 use Rattle.session.specs.declared.state.Session.{Session}
+use Rattle.session.specs.declared.state.Wanted.{Wanted}
 use Rattle.session.specs.declared.calls.Fed.{Fed}
 use Rattle.session.specs.declared.calls.TakenLines.{TakenLines}
 
 -- what a call with room for so many bytes takes off a text
-abbrev pub takes : ℕ → World → List ℕ → Taken World
-takes size w text = takenOff answering size w text
+abbrev pub takes : Wanted → ℕ → World → List ℕ → Taken World
+takes wanted size w text = takenOff (answering wanted) size w text
 
 -- the line that a text begins with, where it has ended
-abbrev pub takesFirst : World → List ℕ → Taken World
-takesFirst w text = firstTaken answering w text
+abbrev pub takesFirst : Wanted → World → List ℕ → Taken World
+takesFirst wanted w text = firstTaken (answering wanted) w text
 
 -- in a place of so many bytes, so many of them written, another line would have room
-abbrev pub hasRoom : ℕ → ℕ → Bool
-hasRoom size written = leb mostSaid (size - written)
+abbrev pub hasRoom : Wanted → ℕ → ℕ → Bool
+hasRoom wanted size written = leb (mostSaid wanted) (size - written)
 
 abbrev pub worldOf : Session → List ℕ → List ℕ → World
 worldOf session memory ports = record { session = session; memory = memory; ports = ports }
@@ -67,18 +68,18 @@ unlessRefused w text filled taken refused =
     cond (eqb (feedRefusal (w .session .bus) (w .memory) (w .ports) text filled) Refusal.accepted) taken
     (refused (feedRefusal (w .session .bus) (w .memory) (w .ports) text filled))
 
-abbrev pub fedOf : World → List ℕ → ℕ → List ℕ → Fed
-fedOf w text filled out =
-    unlessRefused w text filled (takenFed (takes (length out) w (take filled text))) (λ refusal. refusedFed refusal (w .session) filled)
+abbrev pub fedOf : Wanted → World → List ℕ → ℕ → List ℕ → Fed
+fedOf wanted w text filled out =
+    unlessRefused w text filled (takenFed (takes wanted (length out) w (take filled text))) (λ refusal. refusedFed refusal (w .session) filled)
 
-abbrev pub worldLeft : World → List ℕ → ℕ → List ℕ → World
-worldLeft w text filled out = unlessRefused w text filled (takes (length out) w (take filled text) .state) (λ refusal. w)
+abbrev pub worldLeft : Wanted → World → List ℕ → ℕ → List ℕ → World
+worldLeft wanted w text filled out = unlessRefused w text filled (takes wanted (length out) w (take filled text) .state) (λ refusal. w)
 
-abbrev pub outLeft : World → List ℕ → ℕ → List ℕ → List ℕ
-outLeft w text filled out = unlessRefused w text filled (sets out 0 (takes (length out) w (take filled text) .said)) (λ refusal. out)
+abbrev pub outLeft : Wanted → World → List ℕ → ℕ → List ℕ → List ℕ
+outLeft wanted w text filled out = unlessRefused w text filled (sets out 0 (takes wanted (length out) w (take filled text) .said)) (λ refusal. out)
 
-abbrev pub textLeft : World → List ℕ → ℕ → List ℕ → List ℕ
-textLeft w text filled out = unlessRefused w text filled (heldIn text (takes (length out) w (take filled text) .rest)) (λ refusal. text)
+abbrev pub textLeft : Wanted → World → List ℕ → ℕ → List ℕ → List ℕ
+textLeft wanted w text filled out = unlessRefused w text filled (heldIn text (takes wanted (length out) w (take filled text) .rest)) (λ refusal. text)
 
 -- ---- At the end of the input
 
@@ -93,19 +94,19 @@ abbrev pub endedAt : List ℕ → ℕ → ℕ
 endedAt text held = cond (wantsNewline text held) (held + 1) held
 
 -- what is taken then
-abbrev pub takesLast : ℕ → World → List ℕ → ℕ → Taken World
-takesLast size w text held = takes size w (take (endedAt text held) (endedText text held))
+abbrev pub takesLast : Wanted → ℕ → World → List ℕ → ℕ → Taken World
+takesLast wanted size w text held = takes wanted size w (take (endedAt text held) (endedText text held))
 
-abbrev pub finishedOf : World → List ℕ → ℕ → List ℕ → Fed
-finishedOf w text held out =
-    unlessRefused w text held (takenFed (takesLast (length out) w text held)) (λ refusal. refusedFed refusal (w .session) held)
+abbrev pub finishedOf : Wanted → World → List ℕ → ℕ → List ℕ → Fed
+finishedOf wanted w text held out =
+    unlessRefused w text held (takenFed (takesLast wanted (length out) w text held)) (λ refusal. refusedFed refusal (w .session) held)
 
-abbrev pub finishedWorld : World → List ℕ → ℕ → List ℕ → World
-finishedWorld w text held out = unlessRefused w text held (takesLast (length out) w text held .state) (λ refusal. w)
+abbrev pub finishedWorld : Wanted → World → List ℕ → ℕ → List ℕ → World
+finishedWorld wanted w text held out = unlessRefused w text held (takesLast wanted (length out) w text held .state) (λ refusal. w)
 
-abbrev pub finishedOut : World → List ℕ → ℕ → List ℕ → List ℕ
-finishedOut w text held out = unlessRefused w text held (sets out 0 (takesLast (length out) w text held .said)) (λ refusal. out)
+abbrev pub finishedOut : Wanted → World → List ℕ → ℕ → List ℕ → List ℕ
+finishedOut wanted w text held out = unlessRefused w text held (sets out 0 (takesLast wanted (length out) w text held .said)) (λ refusal. out)
 
-abbrev pub finishedText : World → List ℕ → ℕ → List ℕ → List ℕ
-finishedText w text held out =
-    unlessRefused w text held (heldIn (endedText text held) (takesLast (length out) w text held .rest)) (λ refusal. text)
+abbrev pub finishedText : Wanted → World → List ℕ → ℕ → List ℕ → List ℕ
+finishedText wanted w text held out =
+    unlessRefused w text held (heldIn (endedText text held) (takesLast wanted (length out) w text held .rest)) (λ refusal. text)

@@ -5,14 +5,15 @@ use Rattle.text.specs.Newlines.{textLines}
 use Rattle.text.specs.Reading.{answersTo}
 use Rattle.text.specs.Chunks.{Run, begunIn, fedAll}
 use Rattle.session.specs.World.{World, answering, freshWorld}
+use Rattle.session.specs.declared.state.Wanted.{Wanted}
 
--- what is answered to lines from some state on
-abbrev pub answers : World → List (List ℕ) → List ℕ
-answers w lines = answersTo answering w lines
+-- what is written for lines from some state on
+abbrev pub answers : Wanted → World → List (List ℕ) → List ℕ
+answers wanted w lines = answersTo (answering wanted) w lines
 
-abbrev pub output : List ℕ → List ℕ
-output text = answers freshWorld (textLines text)
+abbrev pub output : Wanted → List ℕ → List ℕ
+output wanted text = answers wanted freshWorld (textLines text)
 
 -- The same in calls, one for each chunk of the text, with room for so many bytes: the world then, what was answered, and what is held.
-abbrev pub ranIn : List (ℕ × List ℕ) → Run World
-ranIn calls = fedAll answering (begunIn freshWorld) calls
+abbrev pub ranIn : Wanted → List (ℕ × List ℕ) → Run World
+ranIn wanted calls = fedAll (answering wanted) (begunIn freshWorld) calls

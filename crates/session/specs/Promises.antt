@@ -20,10 +20,13 @@ use Rattle.text.specs.Frames.{eventDigits, eventIn, setupIn, longest}
 use Rattle.text.specs.AnswerLine.{answerLine, answerLength}
 use Rattle.text.specs.Reading.{heldOf}
 use Rattle.text.specs.Chunks.{wholeText}
+use Rattle.pins.specs.Picture.{picturesOf}
 use Rattle.session.specs.World.{World, world, says, turns, mostSaid, setUpBy, freshWorld}
 use Rattle.session.specs.Feeding.{takes, hasRoom, feedRefusal, fedOf, textLeft, outLeft, worldLeft, finishedOf, finishedText, finishedOut, finishedWorld}
 use Rattle.session.specs.Output.{answers, output, ranIn}
 use Rattle.session.specs.declared.state.Stage.the-variants.{Awaiting, Running, Ended}
+use Rattle.session.specs.declared.state.Wanted.{Wanted}
+use Rattle.session.specs.declared.state.Wanted.the-variants.{Answers, Pictures}
 
 -- ---- What a line is answered, and where it leads
 
@@ -31,7 +34,7 @@ use Rattle.session.specs.declared.state.Stage.the-variants.{Awaiting, Ru
 abbrev pub EventTakesItsStep : Type 0
 EventTakesItsStep =
     (m : Machine) (line : List ℕ) → isDigits eventDigits line ≡ true
-    → (says (world Running (m .bus) (m .memory) (m .ports)) line ≡ answerLine (answerTo m (eventIn line)))
+    → (says Answers (world Running (m .bus) (m .memory) (m .ports)) line ≡ answerLine (answerTo m (eventIn line)))
     × (turns (world Running (m .bus) (m .memory) (m .ports)) line
     ≡ world Running (after m (eventIn line) .bus) (after m (eventIn line) .memory) (after m (eventIn line) .ports))
 
@@ -39,7 +42,19 @@ EventTakesItsStep =
 abbrev pub BadLineAnswers : Type 0
 BadLineAnswers =
     (m : Machine) (line : List ℕ) → isDigits eventDigits line ≡ false
-    → says (world Running (m .bus) (m .memory) (m .ports)) line ≡ answerLine (bare Refusal.badLine)
+    → says Answers (world Running (m .bus) (m .memory) (m .ports)) line ≡ answerLine (bare Refusal.badLine)
+
+-- Where pictures are wanted, an event's line has the pictures of the event, which a refused one doesn't have, and another line has none.
+pub record Pictured (m : Machine) (line : List ℕ) : Type 0 where
+  pub accepted : isDigits eventDigits line ≡ true → refusalIn m (eventIn line) ≡ Refusal.accepted
+      → says Pictures (world Running (m .bus) (m .memory) (m .ports)) line ≡ picturesOf (eventIn line) (answerTo m (eventIn line))
+  pub refused : isDigits eventDigits line ≡ true → (refusalIn m (eventIn line) ≡ Refusal.accepted → ⊥)
+      → says Pictures (world Running (m .bus) (m .memory) (m .ports)) line ≡ []
+  pub bad : isDigits eventDigits line ≡ false → says Pictures (world Running (m .bus) (m .memory) (m .ports)) line ≡ []
+  pub setup : says Pictures (world Awaiting (m .bus) (m .memory) (m .ports)) line ≡ []
+
+abbrev pub LinePictured : Type 0
+LinePictured = (m : Machine) (line : List ℕ) → Pictured m line
 
 -- A line that is refused, as bad or as an event, changes neither the bus nor a byte.
 abbrev pub RefusedLineKeeps : Type 0
@@ -68,7 +83,7 @@ pub record SetUpAsWritten (line memory ports : List ℕ) (w : World) : Type 0 wh
 abbrev pub AcceptedSetupLeads : Type 0
 AcceptedSetupLeads =
     (bus : Bus) (memory ports line : List ℕ) → isDigits 20 line ≡ true → ((n : ℕ) → n < 16 → getD line (4 + n) 0 ≤ 0x32)
-    → (says (world Awaiting bus memory ports) line
+    → (says Answers (world Awaiting bus memory ports) line
     ≡ 0x30 ∷ 0x30 ∷ 0x30 ∷ 0x30 ∷ 0x46 ∷ 0x46 ∷ 0x30 ∷ 0x30 ∷ 0x30 ∷ 0x30 ∷ 0x30 ∷ 0x30 ∷ 0x30 ∷ 0x30 ∷ 0x30 ∷ 0x30 ∷ 0x30 ∷ 0x30 ∷ 0x0A ∷ [])
     × SetUpAsWritten line memory ports (turns (world Awaiting bus memory ports) line)
 
@@ -76,26 +91,27 @@ AcceptedSetupLeads =
 abbrev pub RefusedSetupEnds : Type 0
 RefusedSetupEnds =
     (bus : Bus) (memory ports line : List ℕ) (lines : List (List ℕ)) → (setupNumber line ≡ Refusal.accepted → ⊥)
-    → (answers (world Awaiting bus memory ports) (line ∷ lines) ≡ answerLine (bare (setupNumber line)))
+    → (answers Answers (world Awaiting bus memory ports) (line ∷ lines) ≡ answerLine (bare (setupNumber line)))
     × (turns (world Awaiting bus memory ports) line ≡ world Ended emptyBus memory ports)
 
 -- Once a run has ended nothing is said, and no line changes anything.
 abbrev pub EndedStays : Type 0
-EndedStays = (w : World) (line : List ℕ) → w .session .stage ≡ Ended → (says w line ≡ []) × (turns w line ≡ w)
+EndedStays = (wanted : Wanted) (w : World) (line : List ℕ) → w .session .stage ≡ Ended → (says wanted w line ≡ []) × (turns w line ≡ w)
 
--- No line is answered more bytes than the most.
+-- For no line more bytes are written than the most.
 abbrev pub SaysAtMost : Type 0
-SaysAtMost = (w : World) (line : List ℕ) → length (says w line) ≤ mostSaid
+SaysAtMost = (wanted : Wanted) (w : World) (line : List ℕ) → length (says wanted w line) ≤ mostSaid wanted
 
 -- The rest of a line beyond one byte more than the longest right line has changes nothing.
 abbrev pub CutChangesNothing : Type 0
 CutChangesNothing =
-    (w : World) (line : List ℕ) → (says w (take (1 + longest) line) ≡ says w line) × (turns w (take (1 + longest) line) ≡ turns w line)
+    (wanted : Wanted) (w : World) (line : List ℕ)
+    → (says wanted w (take (1 + longest) line) ≡ says wanted w line) × (turns w (take (1 + longest) line) ≡ turns w line)
 
 -- ---- The whole output
 
 abbrev pub EmptyPrintsNothing : Type 0
-EmptyPrintsNothing = output [] ≡ []
+EmptyPrintsNothing = (wanted : Wanted) → output wanted [] ≡ []
 
 -- the lines that are answered: all of them, but only the first where setup is refused
 unfoldable pub answered : List (List ℕ) → ℕ
@@ -104,7 +120,7 @@ answered (line ∷ lines) = cond (eqb (setupNumber line) Refusal.accepted) (1 + 
 
 -- As many answer lines as lines; one alone where setup is refused.
 abbrev pub OneAnswerALine : Type 0
-OneAnswerALine = (text : List ℕ) → length (output text) ≡ answered (textLines text) * answerLength
+OneAnswerALine = (text : List ℕ) → length (output Answers text) ≡ answered (textLines text) * answerLength
 
 -- Whatever the lines, the state makes sense and the buffers keep their lengths, so that 01 and 02 are never answered.
 abbrev pub StaysSound : Type 0
@@ -124,81 +140,93 @@ StartsAtZero = (k : ℕ) → (getD (freshWorld .memory) k 0 ≡ 0) × (getD (fre
 -- However the text is cut into chunks, and whatever room each call has: what was answered, with what the held text will be, is the output.
 abbrev pub AnyChunks : Type 0
 AnyChunks =
-    (calls : List (ℕ × List ℕ))
-    → ranIn calls .said ++ answers (ranIn calls .state) (textLines (ranIn calls .held)) ≡ output (wholeText calls)
+    (wanted : Wanted) (calls : List (ℕ × List ℕ))
+    → ranIn wanted calls .said ++ answers wanted (ranIn wanted calls .state) (textLines (ranIn wanted calls .held)) ≡ output wanted (wholeText calls)
 
--- A call that finds a newline in a session that goes on, and room for an answer, answers a line: so nothing complete stays held.
+-- A call that finds a newline, and room for the most that is written for a line, takes a line: so nothing complete stays held.
 abbrev pub CallsGoOn : Type 0
 CallsGoOn =
+    (wanted : Wanted) (w : World) (size : ℕ) (text : List ℕ) → hasNewline text ≡ true → mostSaid wanted ≤ size
+    → 0 < takes wanted size w text .used
+
+-- Where answers are wanted, and the session goes on, it answers the line.
+abbrev pub CallsAnswer : Type 0
+CallsAnswer =
     (w : World) (size : ℕ) (text : List ℕ) → hasNewline text ≡ true → answerLength ≤ size
-    → (w .session .stage ≡ Awaiting) ⊎ (w .session .stage ≡ Running) → 0 < length (takes size w text .said)
+    → (w .session .stage ≡ Awaiting) ⊎ (w .session .stage ≡ Running) → 0 < length (takes Answers size w text .said)
 
 -- ---- What the two functions do with their buffers
 
 -- An accepted feed writes the answers to the front of `out`, and holds the rest at the front of `text`.
 abbrev pub FedInPlace : Type 0
 FedInPlace =
-    (w : World) (text : List ℕ) (filled : ℕ) (out : List ℕ) → feedRefusal (w .session .bus) (w .memory) (w .ports) text filled ≡ Refusal.accepted
-    → (take (fedOf w text filled out .written) (outLeft w text filled out) ≡ takes (length out) w (take filled text) .said)
-    × ((take (fedOf w text filled out .held) (textLeft w text filled out) ≡ heldOf (takes (length out) w (take filled text) .rest))
-    × (worldLeft w text filled out ≡ takes (length out) w (take filled text) .state))
+    (wanted : Wanted) (w : World) (text : List ℕ) (filled : ℕ) (out : List ℕ)
+    → feedRefusal (w .session .bus) (w .memory) (w .ports) text filled ≡ Refusal.accepted
+    → (take (fedOf wanted w text filled out .written) (outLeft wanted w text filled out) ≡ takes wanted (length out) w (take filled text) .said)
+    × ((take (fedOf wanted w text filled out .held) (textLeft wanted w text filled out) ≡ heldOf (takes wanted (length out) w (take filled text) .rest))
+    × (worldLeft wanted w text filled out ≡ takes wanted (length out) w (take filled text) .state))
 
 -- A call that is given more text than there is, buffers of wrong lengths or a senseless bus says so, in this order, and does nothing: all text
 -- stays held, and no answer is written.
 abbrev pub FeedRefused : Type 0
 FeedRefused =
-    (w : World) (text : List ℕ) (filled : ℕ) (out : List ℕ) (n : ℕ) → feedRefusal (w .session .bus) (w .memory) (w .ports) text filled ≡ n
+    (wanted : Wanted) (w : World) (text : List ℕ) (filled : ℕ) (out : List ℕ) (n : ℕ)
+    → feedRefusal (w .session .bus) (w .memory) (w .ports) text filled ≡ n
     → (n ≡ Refusal.accepted → ⊥)
-    → (fedOf w text filled out ≡ record { refusal = n; session = w .session; held = filled; written = 0 })
-    × ((worldLeft w text filled out ≡ w) × ((textLeft w text filled out ≡ text) × (outLeft w text filled out ≡ out)))
+    → (fedOf wanted w text filled out ≡ record { refusal = n; session = w .session; held = filled; written = 0 })
+    × ((worldLeft wanted w text filled out ≡ w) × ((textLeft wanted w text filled out ≡ text) × (outLeft wanted w text filled out ≡ out)))
 
 -- and so does finish.
 abbrev pub FinishRefused : Type 0
 FinishRefused =
-    (w : World) (text : List ℕ) (held : ℕ) (out : List ℕ) (n : ℕ) → feedRefusal (w .session .bus) (w .memory) (w .ports) text held ≡ n
+    (wanted : Wanted) (w : World) (text : List ℕ) (held : ℕ) (out : List ℕ) (n : ℕ)
+    → feedRefusal (w .session .bus) (w .memory) (w .ports) text held ≡ n
     → (n ≡ Refusal.accepted → ⊥)
-    → (finishedOf w text held out ≡ record { refusal = n; session = w .session; held = held; written = 0 })
-    × ((finishedWorld w text held out ≡ w) × ((finishedText w text held out ≡ text) × (finishedOut w text held out ≡ out)))
+    → (finishedOf wanted w text held out ≡ record { refusal = n; session = w .session; held = held; written = 0 })
+    × ((finishedWorld wanted w text held out ≡ w) × ((finishedText wanted w text held out ≡ text) × (finishedOut wanted w text held out ≡ out)))
 
 -- Where nothing is held, or the text has no room for a newline, or one ends what is held, the end of the input adds nothing.
 abbrev pub NothingToEnd : Type 0
 NothingToEnd =
-    (w : World) (text : List ℕ) (held : ℕ) (out : List ℕ) → (held ≡ 0) ⊎ ((length text ≤ held) ⊎ (getD text (held - 1) 0 ≡ newline))
-    → (finishedOf w text held out ≡ fedOf w text held out)
-    × ((finishedWorld w text held out ≡ worldLeft w text held out)
-    × ((finishedText w text held out ≡ textLeft w text held out) × (finishedOut w text held out ≡ outLeft w text held out)))
+    (wanted : Wanted) (w : World) (text : List ℕ) (held : ℕ) (out : List ℕ) → (held ≡ 0) ⊎ ((length text ≤ held) ⊎ (getD text (held - 1) 0 ≡ newline))
+    → (finishedOf wanted w text held out ≡ fedOf wanted w text held out)
+    × ((finishedWorld wanted w text held out ≡ worldLeft wanted w text held out)
+    × ((finishedText wanted w text held out ≡ textLeft wanted w text held out) × (finishedOut wanted w text held out ≡ outLeft wanted w text held out)))
 
 -- After a feed there is room to read more, where the text is longer than what is held of an unended line, and an answer had room.
 abbrev pub RoomToRead : Type 0
 RoomToRead =
-    (w : World) (text : List ℕ) (filled : ℕ) (out : List ℕ) → feedRefusal (w .session .bus) (w .memory) (w .ports) text filled ≡ Refusal.accepted
-    → 1 + longest < length text → answerLength ≤ length out → fedOf w text filled out .held < length text
+    (wanted : Wanted) (w : World) (text : List ℕ) (filled : ℕ) (out : List ℕ)
+    → feedRefusal (w .session .bus) (w .memory) (w .ports) text filled ≡ Refusal.accepted
+    → 1 + longest < length text → mostSaid wanted ≤ length out → fedOf wanted w text filled out .held < length text
 
 -- Another answer has room exactly where its bytes are left.
 abbrev pub RoomAsked : Type 0
-RoomAsked = (size written : ℕ) → (hasRoom size written ≡ true) ↔ (written + answerLength ≤ size)
+RoomAsked = (wanted : Wanted) (size written : ℕ) → (hasRoom wanted size written ≡ true) ↔ (written + mostSaid wanted ≤ size)
 
 -- A feed that left room for another answer holds no line that has ended: only then is there reason to read more.
 abbrev pub NothingCompleteHeld : Type 0
 NothingCompleteHeld =
-    (w : World) (text : List ℕ) (filled : ℕ) (out : List ℕ) → feedRefusal (w .session .bus) (w .memory) (w .ports) text filled ≡ Refusal.accepted
-    → hasRoom (length out) (fedOf w text filled out .written) ≡ true
-    → hasNewline (take (fedOf w text filled out .held) (textLeft w text filled out)) ≡ false
+    (wanted : Wanted) (w : World) (text : List ℕ) (filled : ℕ) (out : List ℕ)
+    → feedRefusal (w .session .bus) (w .memory) (w .ports) text filled ≡ Refusal.accepted
+    → hasRoom wanted (length out) (fedOf wanted w text filled out .written) ≡ true
+    → hasNewline (take (fedOf wanted w text filled out .held) (textLeft wanted w text filled out)) ≡ false
 
 -- At the end of the input an accepted finish writes what the held line is answered, where it holds no newline and has room for one.
 abbrev pub FinishedInPlace : Type 0
 FinishedInPlace =
-    (w : World) (text : List ℕ) (held : ℕ) (out : List ℕ) → feedRefusal (w .session .bus) (w .memory) (w .ports) text held ≡ Refusal.accepted
-    → held < length text → hasNewline (take held text) ≡ false → answerLength ≤ length out
-    → take (finishedOf w text held out .written) (finishedOut w text held out) ≡ answers w (textLines (take held text))
+    (wanted : Wanted) (w : World) (text : List ℕ) (held : ℕ) (out : List ℕ)
+    → feedRefusal (w .session .bus) (w .memory) (w .ports) text held ≡ Refusal.accepted
+    → held < length text → hasNewline (take held text) ≡ false → mostSaid wanted ≤ length out
+    → take (finishedOf wanted w text held out .written) (finishedOut wanted w text held out) ≡ answers wanted w (textLines (take held text))
 
 -- So a whole run prints the output: calls on any chunks until no newline is held, and then a finish on a text that holds the rest and has
 -- room for a newline, with room for an answer.
 abbrev pub WholeRun : Type 0
 WholeRun =
-    (calls : List (ℕ × List ℕ)) (text out : List ℕ) → take (length (ranIn calls .held)) text ≡ ranIn calls .held
-    → length (ranIn calls .held) < length text → hasNewline (ranIn calls .held) ≡ false → answerLength ≤ length out
-    → ranIn calls .said
-    ++ take (finishedOf (ranIn calls .state) text (length (ranIn calls .held)) out .written)
-    (finishedOut (ranIn calls .state) text (length (ranIn calls .held)) out)
-    ≡ output (wholeText calls)
+    (wanted : Wanted) (calls : List (ℕ × List ℕ)) (text out : List ℕ) → take (length (ranIn wanted calls .held)) text ≡ ranIn wanted calls .held
+    → length (ranIn wanted calls .held) < length text → hasNewline (ranIn wanted calls .held) ≡ false → mostSaid wanted ≤ length out
+    → ranIn wanted calls .said
+    ++ take (finishedOf wanted (ranIn wanted calls .state) text (length (ranIn wanted calls .held)) out .written)
+    (finishedOut wanted (ranIn wanted calls .state) text (length (ranIn wanted calls .held)) out)
+    ≡ output wanted (wholeText calls)

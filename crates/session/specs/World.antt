@@ -10,6 +10,7 @@ use Rattle.bus.specs.Refusal as Refusal
 use Rattle.bus.specs.Setup.{emptyBus, setupOf}
 use Rattle.bus.specs.declared.state.Bus.{Bus}
 use Rattle.bus.specs.declared.state.SetupAnswer.{SetupAnswer}
+use Rattle.judgement.specs.declared.event.Event.{Event}
 use Rattle.events.specs.Machine.{Machine, machine}
 use Rattle.events.specs.Answers.{answerWith, bare}
 use Rattle.events.specs.Step.{after, answerTo}
@@ -19,9 +20,12 @@ use Rattle.text.specs.Frames.{eventDigits, eventIn, setupIn}
 use Rattle.text.specs.AnswerLine.{answerLine, answerLength}
 use Rattle.text.specs.Reading.{Reader}
 use Rattle.text.specs.declared.frames.SetupLine.{SetupLine}
+use Rattle.pins.specs.Picture.{mostPictured, picturesOf}
 use Rattle.session.specs.declared.state.Stage.{Stage}
 use Rattle.session.specs.declared.state.Stage.the-variants.{Awaiting, Running, Ended}
 use Rattle.session.specs.declared.state.Session.{Session}
+use Rattle.session.specs.declared.state.Wanted.{Wanted}
+use Rattle.session.specs.declared.state.Wanted.the-variants.{Answers, Pictures}
 
 -- a session with its memory and its ports
 pub record World : Type 0 where
@@ -53,20 +57,33 @@ setupAnswer given =
 abbrev pub stageAfter : SetupAnswer → Stage
 stageAfter given = cond (eqb (given .answer) Refusal.accepted) Running Ended
 
+-- ---- What is written: answers (01), or pictures (02, CR 1)
+
+-- for a line that is no event: nothing of it is pictured
+abbrev pub replyAs : Wanted → Answer → List ℕ
+replyAs Answers answer = answerLine answer
+replyAs Pictures answer = []
+
+-- for an event: its picture, if it is accepted
+abbrev pub eventAs : Wanted → Event → Answer → List ℕ
+eventAs Answers event answer = answerLine answer
+eventAs Pictures event answer = picturesOf event answer
+
 -- ---- Event lines: 0C for a bad one, and otherwise the step of `events`
 
-abbrev pub eventAnswer : Machine → List ℕ → Answer
-eventAnswer m line = cond (isDigits eventDigits line) (answerTo m (eventIn line)) (bare Refusal.badLine)
+abbrev pub eventSaid : Wanted → Machine → List ℕ → List ℕ
+eventSaid wanted m line =
+    cond (isDigits eventDigits line) (eventAs wanted (eventIn line) (answerTo m (eventIn line))) (replyAs wanted (bare Refusal.badLine))
 
 abbrev pub afterEvent : Machine → List ℕ → Machine
 afterEvent m line = cond (isDigits eventDigits line) (after m (eventIn line)) m
 
 -- ---- Any line
 
-unfoldable pub saysBy : Stage → World → List ℕ → List ℕ
-saysBy Awaiting w line = answerLine (setupAnswer (setUpBy (setupIn line)))
-saysBy Running w line = answerLine (eventAnswer (machineOf w) line)
-saysBy Ended w line = []
+unfoldable pub saysBy : Wanted → Stage → World → List ℕ → List ℕ
+saysBy wanted Awaiting w line = replyAs wanted (setupAnswer (setUpBy (setupIn line)))
+saysBy wanted Running w line = eventSaid wanted (machineOf w) line
+saysBy wanted Ended w line = []
 
 unfoldable pub turnsBy : Stage → World → List ℕ → World
 turnsBy Awaiting w line = world (stageAfter (setUpBy (setupIn line))) (setUpBy (setupIn line) .bus) (w .memory) (w .ports)
@@ -74,21 +91,22 @@ turnsBy Running w line =
     world Running (afterEvent (machineOf w) line .bus) (afterEvent (machineOf w) line .memory) (afterEvent (machineOf w) line .ports)
 turnsBy Ended w line = w
 
--- the bytes that are answered to a line
-abbrev pub says : World → List ℕ → List ℕ
-says w line = saysBy (w .session .stage) w line
+-- the bytes that are written for a line
+abbrev pub says : Wanted → World → List ℕ → List ℕ
+says wanted w line = saysBy wanted (w .session .stage) w line
 
 -- what a line leads to
 abbrev pub turns : World → List ℕ → World
 turns w line = turnsBy (w .session .stage) w line
 
--- the most bytes that are answered to a line
-abbrev pub mostSaid : ℕ
-mostSaid = answerLength
+-- the most bytes that are written for a line
+abbrev pub mostSaid : Wanted → ℕ
+mostSaid Answers = answerLength
+mostSaid Pictures = mostPictured
 
 -- the program as a reader of lines
-abbrev pub answering : Reader World
-answering = record { says = says; turns = turns; most = mostSaid }
+abbrev pub answering : Wanted → Reader World
+answering wanted = record { says = says wanted; turns = turns; most = mostSaid wanted }
 
 -- before the first line: an empty chassis, memory and ports at zero
 abbrev pub fresh : Session
