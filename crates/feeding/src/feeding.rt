@@ -16,11 +16,13 @@ use bus::numbers::*;
 use sense::makes_sense;
 use session::Fed;
 use session::Session;
+use session::Wanted;
 use text::NEWLINE;
 
 // Takes the lines that have ended in the filled part of the text, as many as have room for their answers, and brings the rest to the front.
 // What is read next goes behind it.
 pub fn feed(
+    wanted: Wanted,
     session: Session,
     text: &mut [u8],
     filled: usize,
@@ -28,19 +30,19 @@ pub fn feed(
     memory: &mut [u8],
     ports: &mut [u8],
 ) -> Fed
-    ensures fed { λ r. ⌜ r ≡ fedOf (worldOf session (now (memory .entry)) (now (ports .entry))) (now (text .entry)) filled (now (out .entry)) ⌝ }
+    ensures fed { λ r. ⌜ r ≡ fedOf wanted (worldOf session (now (memory .entry)) (now (ports .entry))) (now (text .entry)) filled (now (out .entry)) ⌝ }
     ensures text_left { λ _. ⌜ now (text .exit) ≡
-        textLeft (worldOf session (now (memory .entry)) (now (ports .entry))) (now (text .entry)) filled (now (out .entry)) ⌝ }
+        textLeft wanted (worldOf session (now (memory .entry)) (now (ports .entry))) (now (text .entry)) filled (now (out .entry)) ⌝ }
     ensures out_left { λ _. ⌜ now (out .exit) ≡
-        outLeft (worldOf session (now (memory .entry)) (now (ports .entry))) (now (text .entry)) filled (now (out .entry)) ⌝ }
+        outLeft wanted (worldOf session (now (memory .entry)) (now (ports .entry))) (now (text .entry)) filled (now (out .entry)) ⌝ }
     ensures memory_left { λ _. ⌜ now (memory .exit) ≡
-        worldLeft (worldOf session (now (memory .entry)) (now (ports .entry))) (now (text .entry)) filled (now (out .entry)) .memory ⌝ }
+        worldLeft wanted (worldOf session (now (memory .entry)) (now (ports .entry))) (now (text .entry)) filled (now (out .entry)) .memory ⌝ }
     ensures ports_left { λ _. ⌜ now (ports .exit) ≡
-        worldLeft (worldOf session (now (memory .entry)) (now (ports .entry))) (now (text .entry)) filled (now (out .entry)) .ports ⌝ }
+        worldLeft wanted (worldOf session (now (memory .entry)) (now (ports .entry))) (now (text .entry)) filled (now (out .entry)) .ports ⌝ }
 {
     let refusal = feed_refusal(session.bus, text, filled, memory, ports);
     if refusal == ACCEPTED {
-        take_in(session, text, filled, out, memory, ports)
+        take_in(wanted, session, text, filled, out, memory, ports)
     } else {
         refused_fed(refusal, session, filled)
     }
@@ -59,6 +61,7 @@ fn refused_fed(refusal: u8, session: Session, filled: usize) -> Fed
 }
 
 fn take_in(
+    wanted: Wanted,
     session: Session,
     text: &mut [u8],
     filled: usize,
@@ -70,19 +73,19 @@ fn take_in(
     requires { ⌜ hasWrongBuffers (now memory) (now ports) ≡ false ⌝ }
     requires { ⌜ makesSense (session .bus) ≡ true ⌝ }
     ensures fed { λ r. ⌜ r ≡
-        takenFed (takes (length (now (out .entry))) (worldOf session (now (memory .entry)) (now (ports .entry))) (take filled (now (text .entry)))) ⌝ }
+        takenFed (takes wanted (length (now (out .entry))) (worldOf session (now (memory .entry)) (now (ports .entry))) (take filled (now (text .entry)))) ⌝ }
     ensures text_left { λ _. ⌜ now (text .exit) ≡
-        heldIn (now (text .entry)) (takes (length (now (out .entry)))
+        heldIn (now (text .entry)) (takes wanted (length (now (out .entry)))
         (worldOf session (now (memory .entry)) (now (ports .entry))) (take filled (now (text .entry))) .rest) ⌝ }
     ensures out_left { λ _. ⌜ now (out .exit) ≡
-        sets (now (out .entry)) 0 (takes (length (now (out .entry)))
+        sets (now (out .entry)) 0 (takes wanted (length (now (out .entry)))
         (worldOf session (now (memory .entry)) (now (ports .entry))) (take filled (now (text .entry))) .said) ⌝ }
     ensures memory_left { λ _. ⌜ now (memory .exit) ≡
-        takes (length (now (out .entry))) (worldOf session (now (memory .entry)) (now (ports .entry))) (take filled (now (text .entry))) .state .memory ⌝ }
+        takes wanted (length (now (out .entry))) (worldOf session (now (memory .entry)) (now (ports .entry))) (take filled (now (text .entry))) .state .memory ⌝ }
     ensures ports_left { λ _. ⌜ now (ports .exit) ≡
-        takes (length (now (out .entry))) (worldOf session (now (memory .entry)) (now (ports .entry))) (take filled (now (text .entry))) .state .ports ⌝ }
+        takes wanted (length (now (out .entry))) (worldOf session (now (memory .entry)) (now (ports .entry))) (take filled (now (text .entry))) .state .ports ⌝ }
 {
-    let taken = take_lines(session, &text[..filled], out, memory, ports);
+    let taken = take_lines(wanted, session, &text[..filled], out, memory, ports);
     let held = hold(text, taken.used, filled);
     let next = taken.session;
     Fed {
@@ -109,6 +112,7 @@ fn feed_refusal(bus: Bus, text: &[u8], filled: usize, memory: &[u8], ports: &[u8
 
 // The end of the input ends the line that is held, as a newline would, unless one ends it already.
 pub fn finish(
+    wanted: Wanted,
     session: Session,
     text: &mut [u8],
     held: usize,
@@ -116,20 +120,20 @@ pub fn finish(
     memory: &mut [u8],
     ports: &mut [u8],
 ) -> Fed
-    ensures fed { λ r. ⌜ r ≡ finishedOf (worldOf session (now (memory .entry)) (now (ports .entry))) (now (text .entry)) held (now (out .entry)) ⌝ }
+    ensures fed { λ r. ⌜ r ≡ finishedOf wanted (worldOf session (now (memory .entry)) (now (ports .entry))) (now (text .entry)) held (now (out .entry)) ⌝ }
     ensures text_left { λ _. ⌜ now (text .exit) ≡
-        finishedText (worldOf session (now (memory .entry)) (now (ports .entry))) (now (text .entry)) held (now (out .entry)) ⌝ }
+        finishedText wanted (worldOf session (now (memory .entry)) (now (ports .entry))) (now (text .entry)) held (now (out .entry)) ⌝ }
     ensures out_left { λ _. ⌜ now (out .exit) ≡
-        finishedOut (worldOf session (now (memory .entry)) (now (ports .entry))) (now (text .entry)) held (now (out .entry)) ⌝ }
+        finishedOut wanted (worldOf session (now (memory .entry)) (now (ports .entry))) (now (text .entry)) held (now (out .entry)) ⌝ }
     ensures memory_left { λ _. ⌜ now (memory .exit) ≡
-        finishedWorld (worldOf session (now (memory .entry)) (now (ports .entry))) (now (text .entry)) held (now (out .entry)) .memory ⌝ }
+        finishedWorld wanted (worldOf session (now (memory .entry)) (now (ports .entry))) (now (text .entry)) held (now (out .entry)) .memory ⌝ }
     ensures ports_left { λ _. ⌜ now (ports .exit) ≡
-        finishedWorld (worldOf session (now (memory .entry)) (now (ports .entry))) (now (text .entry)) held (now (out .entry)) .ports ⌝ }
+        finishedWorld wanted (worldOf session (now (memory .entry)) (now (ports .entry))) (now (text .entry)) held (now (out .entry)) .ports ⌝ }
 {
     let refusal = feed_refusal(session.bus, text, held, memory, ports);
     if refusal == ACCEPTED {
         let filled = end_line(text, held);
-        take_in(session, text, filled, out, memory, ports)
+        take_in(wanted, session, text, filled, out, memory, ports)
     } else {
         refused_fed(refusal, session, held)
     }

@@ -1,6 +1,7 @@
 // A run of the program in calls, each with a piece of the text.
 mod feeding;
 mod holding;
+mod saying;
 mod setting;
 mod taking;
 

@@ -1,4 +1,4 @@
-// The lines that have ended, taken off a text and answered.
+// The lines that have ended, taken off a text, and what is written for them.
 ghost use mathlib.Core.Bool.{true, false};
 ghost use mathlib.Core.List.{List};
 ghost use mathlib.Core.Path.{_≡_};
@@ -10,35 +10,35 @@ ghost use Rattle.judgement.specs.Refusals.{hasWrongBuffers};
 ghost use Rattle.session.specs.World.{world, mostSaid};
 ghost use Rattle.session.specs.Feeding.{takes, takesFirst, hasRoom, linesTaken, told, worldOf};
 ghost use Rattle.session.specs.declared.state.Stage.the-variants.{Awaiting, Running, Ended};
+ghost use Rattle.session.specs.declared.state.Wanted.{Wanted};
+use crate::saying::most_said;
+use crate::saying::put_event;
+use crate::saying::put_reply;
 use crate::setting::set_up;
 use crate::setting::setup_answer;
 use crate::setting::stage_after;
 use bus::Bus;
 use bus::numbers::*;
-use printing::put_answer;
 use reading::line_end;
 use reading::next_line;
 use session::Session;
 use session::Stage;
 use session::TakenLines;
+use session::Wanted;
 use stepping::bare;
 use stepping::sound_step;
-use text::ANSWER_LENGTH;
 use text::EVENT_DIGITS;
 use text::Line;
-
-// The most bytes that are answered to a line.
-const MOST_SAID: usize = ANSWER_LENGTH;
 
 // An event line with its newline.
 const EVENT_BYTES: usize = EVENT_DIGITS + 1;
 
 // In a place with so many bytes written, another line would have room.
-pub fn has_room(out: &[u8], written: usize) -> bool
-    ensures { λ r. ⌜ r ≡ hasRoom (length (now (out .entry))) written ⌝ }
+pub fn has_room(wanted: Wanted, out: &[u8], written: usize) -> bool
+    ensures { λ r. ⌜ r ≡ hasRoom wanted (length (now (out .entry))) written ⌝ }
 {
     if written <= out.len() {
-        MOST_SAID <= out.len() - written
+        most_said(wanted) <= out.len() - written
     } else {
         false
     }
@@ -46,6 +46,7 @@ pub fn has_room(out: &[u8], written: usize) -> bool
 
 // As many lines as have ended and find room, one after another: each is read from the slice behind the newline before it.
 pub fn take_lines(
+    wanted: Wanted,
     start: Session,
     text: &[u8],
     out: &mut [u8],
@@ -55,21 +56,22 @@ pub fn take_lines(
     requires { ⌜ hasWrongBuffers (now memory) (now ports) ≡ false ⌝ }
     requires { ⌜ makesSense (start .bus) ≡ true ⌝ }
     ensures taken { λ r. ⌜ r ≡
-        linesTaken (takes (length (now (out .entry))) (worldOf start (now (memory .entry)) (now (ports .entry))) (now (text .entry))) ⌝ }
+        linesTaken (takes wanted (length (now (out .entry))) (worldOf start (now (memory .entry)) (now (ports .entry))) (now (text .entry))) ⌝ }
     ensures out_left { λ _. ⌜ now (out .exit) ≡
-        sets (now (out .entry)) 0 (takes (length (now (out .entry))) (worldOf start (now (memory .entry)) (now (ports .entry))) (now (text .entry)) .said) ⌝ }
+        sets (now (out .entry)) 0 (takes wanted (length (now (out .entry))) (worldOf start (now (memory .entry)) (now (ports .entry))) (now (text .entry)) .said) ⌝ }
     ensures memory_left { λ _. ⌜ now (memory .exit) ≡
-        takes (length (now (out .entry))) (worldOf start (now (memory .entry)) (now (ports .entry))) (now (text .entry)) .state .memory ⌝ }
+        takes wanted (length (now (out .entry))) (worldOf start (now (memory .entry)) (now (ports .entry))) (now (text .entry)) .state .memory ⌝ }
     ensures ports_left { λ _. ⌜ now (ports .exit) ≡
-        takes (length (now (out .entry))) (worldOf start (now (memory .entry)) (now (ports .entry))) (now (text .entry)) .state .ports ⌝ }
+        takes wanted (length (now (out .entry))) (worldOf start (now (memory .entry)) (now (ports .entry))) (now (text .entry)) .state .ports ⌝ }
 {
+    let most = most_said(wanted);
     let mut stage = start.stage;
     let mut bus = start.bus;
     let mut rest = text;
     let mut used: usize = 0;
     let mut written: usize = 0;
-    while MOST_SAID <= out.len() - written {
-        let line = take_line(stage, bus, rest, &mut out[written..], memory, ports);
+    while most <= out.len() - written {
+        let line = take_line(wanted, stage, bus, rest, &mut out[written..], memory, ports);
         let size = line.used;
         if size == 0 {
             break;
@@ -93,6 +95,7 @@ pub fn take_lines(
 
 // The line that a text begins with, by the stage.
 fn take_line(
+    wanted: Wanted,
     stage: Stage,
     bus: Bus,
     rest: &[u8],
@@ -100,35 +103,35 @@ fn take_line(
     memory: &mut [u8],
     ports: &mut [u8],
 ) -> TakenLines
-    requires { ⌜ mostSaid ≤ length (now out) ⌝ }
+    requires { ⌜ mostSaid wanted ≤ length (now out) ⌝ }
     requires { ⌜ hasWrongBuffers (now memory) (now ports) ≡ false ⌝ }
     requires { ⌜ makesSense bus ≡ true ⌝ }
-    ensures taken { λ r. ⌜ r ≡ linesTaken (takesFirst (world stage bus (now (memory .entry)) (now (ports .entry))) (now (rest .entry))) ⌝ }
+    ensures taken { λ r. ⌜ r ≡ linesTaken (takesFirst wanted (world stage bus (now (memory .entry)) (now (ports .entry))) (now (rest .entry))) ⌝ }
     ensures out_left { λ _. ⌜ now (out .exit) ≡
-        sets (now (out .entry)) 0 (takesFirst (world stage bus (now (memory .entry)) (now (ports .entry))) (now (rest .entry)) .said) ⌝ }
+        sets (now (out .entry)) 0 (takesFirst wanted (world stage bus (now (memory .entry)) (now (ports .entry))) (now (rest .entry)) .said) ⌝ }
     ensures memory_left { λ _. ⌜ now (memory .exit) ≡
-        takesFirst (world stage bus (now (memory .entry)) (now (ports .entry))) (now (rest .entry)) .state .memory ⌝ }
+        takesFirst wanted (world stage bus (now (memory .entry)) (now (ports .entry))) (now (rest .entry)) .state .memory ⌝ }
     ensures ports_left { λ _. ⌜ now (ports .exit) ≡
-        takesFirst (world stage bus (now (memory .entry)) (now (ports .entry))) (now (rest .entry)) .state .ports ⌝ }
+        takesFirst wanted (world stage bus (now (memory .entry)) (now (ports .entry))) (now (rest .entry)) .state .ports ⌝ }
 {
     match stage {
-        Stage::Awaiting => take_setup(bus, rest, out),
-        Stage::Running => take_event(bus, rest, out, memory, ports),
+        Stage::Awaiting => take_setup(wanted, bus, rest, out),
+        Stage::Running => take_event(wanted, bus, rest, out, memory, ports),
         Stage::Ended => pass_line(bus, rest),
     }
 }
 
 // The setup line goes by neither memory nor ports.
-fn take_setup(bus: Bus, rest: &[u8], out: &mut [u8]) -> TakenLines
-    requires { ⌜ mostSaid ≤ length (now out) ⌝ }
-    ensures taken { λ r. ⌜ ((memory ports : List ℕ) → r ≡ linesTaken (takesFirst (world Awaiting bus memory ports) (now (rest .entry)))) ⌝ }
+fn take_setup(wanted: Wanted, bus: Bus, rest: &[u8], out: &mut [u8]) -> TakenLines
+    requires { ⌜ mostSaid wanted ≤ length (now out) ⌝ }
+    ensures taken { λ r. ⌜ ((memory ports : List ℕ) → r ≡ linesTaken (takesFirst wanted (world Awaiting bus memory ports) (now (rest .entry)))) ⌝ }
     ensures out_left { λ _. ⌜ ((memory ports : List ℕ) → now (out .exit) ≡
-        sets (now (out .entry)) 0 (takesFirst (world Awaiting bus memory ports) (now (rest .entry)) .said)) ⌝ }
+        sets (now (out .entry)) 0 (takesFirst wanted (world Awaiting bus memory ports) (now (rest .entry)) .said)) ⌝ }
 {
     let end = line_end(rest);
     if end < rest.len() {
         let given = set_up(&rest[..end]);
-        let written = put_answer(setup_answer(given), out);
+        let written = put_reply(wanted, setup_answer(given), out);
         told(stage_after(given), given.bus, end + 1, written)
     } else {
         told(Stage::Awaiting, bus, 0, 0)
@@ -136,22 +139,23 @@ fn take_setup(bus: Bus, rest: &[u8], out: &mut [u8]) -> TakenLines
 }
 
 fn take_event(
+    wanted: Wanted,
     bus: Bus,
     rest: &[u8],
     out: &mut [u8],
     memory: &mut [u8],
     ports: &mut [u8],
 ) -> TakenLines
-    requires { ⌜ mostSaid ≤ length (now out) ⌝ }
+    requires { ⌜ mostSaid wanted ≤ length (now out) ⌝ }
     requires { ⌜ hasWrongBuffers (now memory) (now ports) ≡ false ⌝ }
     requires { ⌜ makesSense bus ≡ true ⌝ }
-    ensures taken { λ r. ⌜ r ≡ linesTaken (takesFirst (world Running bus (now (memory .entry)) (now (ports .entry))) (now (rest .entry))) ⌝ }
+    ensures taken { λ r. ⌜ r ≡ linesTaken (takesFirst wanted (world Running bus (now (memory .entry)) (now (ports .entry))) (now (rest .entry))) ⌝ }
     ensures out_left { λ _. ⌜ now (out .exit) ≡
-        sets (now (out .entry)) 0 (takesFirst (world Running bus (now (memory .entry)) (now (ports .entry))) (now (rest .entry)) .said) ⌝ }
+        sets (now (out .entry)) 0 (takesFirst wanted (world Running bus (now (memory .entry)) (now (ports .entry))) (now (rest .entry)) .said) ⌝ }
     ensures memory_left { λ _. ⌜ now (memory .exit) ≡
-        takesFirst (world Running bus (now (memory .entry)) (now (ports .entry))) (now (rest .entry)) .state .memory ⌝ }
+        takesFirst wanted (world Running bus (now (memory .entry)) (now (ports .entry))) (now (rest .entry)) .state .memory ⌝ }
     ensures ports_left { λ _. ⌜ now (ports .exit) ≡
-        takesFirst (world Running bus (now (memory .entry)) (now (ports .entry))) (now (rest .entry)) .state .ports ⌝ }
+        takesFirst wanted (world Running bus (now (memory .entry)) (now (ports .entry))) (now (rest .entry)) .state .ports ⌝ }
 {
     let line = next_line(rest);
     match line {
@@ -159,11 +163,11 @@ fn take_event(
             let stepped = sound_step(bus, event, memory, ports);
             let answer = stepped.answer;
             let next = stepped.bus;
-            let written = put_answer(answer, out);
+            let written = put_event(wanted, event, answer, out);
             told(Stage::Running, next, EVENT_BYTES, written)
         }
         Line::Bad(size) => {
-            let written = put_answer(bare(BAD_LINE), out);
+            let written = put_reply(wanted, bare(BAD_LINE), out);
             told(Stage::Running, bus, size + 1, written)
         }
         Line::Unended => told(Stage::Running, bus, 0, 0),
@@ -172,7 +176,7 @@ fn take_event(
 
 // Once setup was refused a line is passed over.
 fn pass_line(bus: Bus, rest: &[u8]) -> TakenLines
-    ensures { λ r. ⌜ ((memory ports : List ℕ) → r ≡ linesTaken (takesFirst (world Ended bus memory ports) (now (rest .entry)))) ⌝ }
+    ensures { λ r. ⌜ ((wanted : Wanted) (memory ports : List ℕ) → r ≡ linesTaken (takesFirst wanted (world Ended bus memory ports) (now (rest .entry)))) ⌝ }
 {
     let end = line_end(rest);
     if end < rest.len() {

@@ -108,8 +108,10 @@ pictures-fit event answer =
   where
     one : (m : Moment) → length (linesFor (m ∷ [])) ≤ mostPictured
     one m = omega (arith, ap length (one-line m), line-long m)
+
     none : length (linesFor []) ≤ mostPictured
     none = omega (arith, no-lines)
+
     go : (taken strobe split word : Bool)
         → length (linesFor (cond taken (cond strobe (
         cond split (evenMoment event answer ∷ oddMoment event answer ∷ [])

@@ -2,3 +2,4 @@
 pub mod FiveLaws
 pub mod KindLaws
 pub mod SplitLaws
+pub mod LevelLaws

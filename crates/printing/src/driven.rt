@@ -5,8 +5,7 @@ ghost use lib.ListN.{length};
 ghost use lib.Seq.{sets};
 ghost use Rattle.pins.specs.Picture.{levelDigits, pictureLength, drivenOf};
 ghost use Rattle.printing.specs.Fives.{fiveDriven};
-use crate::pin_digits::ZERO;
-use crate::pin_digits::pin_digit;
+use crate::pin_digits::either;
 use crate::pin_digits::put_five;
 use pins::Moment;
 use pins::sizes::DRIVEN_AT;
@@ -29,12 +28,12 @@ fn put_driven_1(m: Moment, out: &mut [u8])
     let cyclic = m.cyclic;
     put_five(
         out,
-        DRIVEN_AT + 0,
-        ZERO,
-        ZERO,
-        ZERO,
-        pin_digit(false, true, cyclic, cyclic),
-        pin_digit(cyclic, true, true, false),
+        DRIVEN_AT,
+        b'0',
+        b'0',
+        b'0',
+        either(cyclic, b'7', b'4'),
+        either(cyclic, b'E', b'6'),
     );
 }
 
@@ -47,11 +46,19 @@ fn put_driven_21(m: Moment, out: &mut [u8])
     put_five(
         out,
         DRIVEN_AT + 5,
-        pin_digit(false, true, true, false),
-        pin_digit(true, true, false, false),
-        pin_digit(cyclic, cyclic, cyclic, cyclic),
-        pin_digit(cyclic, cyclic, outward, outward),
-        pin_digit(cyclic, outward, outward, outward),
+        b'6',
+        b'C',
+        either(cyclic, b'F', b'0'),
+        either(
+            cyclic,
+            either(outward, b'F', b'C'),
+            either(outward, b'3', b'0'),
+        ),
+        either(
+            cyclic,
+            either(outward, b'F', b'8'),
+            either(outward, b'7', b'0'),
+        ),
     );
 }
 
@@ -59,16 +66,20 @@ fn put_driven_41(m: Moment, out: &mut [u8])
     requires { ⌜ pictureLength ≤ length (now out) ⌝ }
     ensures { λ _. ⌜ now (out .exit) ≡ sets (now (out .entry)) 35 (fiveDriven 10 m) ⌝ }
 {
-    let inward = m.inward;
     let cyclic = m.cyclic;
+    let inward = m.inward;
     put_five(
         out,
         DRIVEN_AT + 10,
-        pin_digit(inward, inward, inward, cyclic),
-        pin_digit(cyclic, cyclic, cyclic, false),
-        ZERO,
-        pin_digit(false, false, true, true),
-        pin_digit(true, cyclic, cyclic, true),
+        either(
+            cyclic,
+            either(inward, b'F', b'1'),
+            either(inward, b'E', b'0'),
+        ),
+        either(cyclic, b'E', b'0'),
+        b'0',
+        b'3',
+        either(cyclic, b'F', b'9'),
     );
 }
 
@@ -80,11 +91,11 @@ fn put_driven_61(m: Moment, out: &mut [u8])
     put_five(
         out,
         DRIVEN_AT + 15,
-        pin_digit(cyclic, cyclic, cyclic, cyclic),
-        pin_digit(false, false, false, true),
-        ZERO,
-        pin_digit(false, true, false, true),
-        pin_digit(true, true, cyclic, cyclic),
+        either(cyclic, b'F', b'0'),
+        b'1',
+        b'0',
+        b'5',
+        either(cyclic, b'F', b'C'),
     );
 }
 
@@ -98,10 +109,18 @@ fn put_driven_81(m: Moment, out: &mut [u8])
     put_five(
         out,
         DRIVEN_AT + 20,
-        pin_digit(cyclic, cyclic, cyclic, cyclic),
-        pin_digit(cyclic, cyclic, cyclic, outward),
-        pin_digit(outward, outward, inward, inward),
-        pin_digit(inward, inward, inward, false),
-        pin_digit(cyclic, false, false, false),
+        either(cyclic, b'F', b'0'),
+        either(
+            cyclic,
+            either(outward, b'F', b'E'),
+            either(outward, b'1', b'0'),
+        ),
+        either(
+            outward,
+            either(inward, b'F', b'C'),
+            either(inward, b'3', b'0'),
+        ),
+        either(inward, b'E', b'0'),
+        either(cyclic, b'8', b'0'),
     );
 }

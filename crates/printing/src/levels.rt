@@ -1,10 +1,11 @@
 // The levels of the hundred pins at one moment, twenty pins to a function, four to a digit (003, Appendix B).
+ghost use mathlib.Core.Bool.{cond};
 ghost use mathlib.Core.Path.{_≡_};
 ghost use Prim.Native.Nat.{_≤_};
 ghost use lib.ListN.{length};
 ghost use lib.Seq.{sets};
 ghost use Rattle.pins.specs.Picture.{pictureLength, levelsOf};
-ghost use Rattle.printing.specs.Fives.{fiveLevels};
+ghost use Rattle.printing.specs.Fives.{fiveShown, quieted};
 use crate::pin_digits::ZERO;
 use crate::pin_digits::pin_digit;
 use crate::pin_digits::put_five;
@@ -80,20 +81,50 @@ pub fn put_levels(m: Moment, out: &mut [u8])
     requires { ⌜ pictureLength ≤ length (now out) ⌝ }
     ensures { λ _. ⌜ now (out .exit) ≡ sets (now (out .entry)) 0 (levelsOf m) ⌝ }
 {
-    put_levels_1(m, out);
-    put_levels_21(m, out);
-    put_levels_41(m, out);
-    put_levels_61(m, out);
-    put_levels_81(m, out);
+    let quiet = quieted(m);
+    put_levels_1(quiet, out);
+    put_levels_21(quiet, out);
+    put_levels_41(quiet, out);
+    put_levels_61(quiet, out);
+    put_levels_81(quiet, out);
+}
+
+// The address and the bytes are asked once whether they are driven, and not at each of their pins.
+fn quieted(m: Moment) -> Moment
+    ensures { λ r. ⌜ r ≡ quieted m ⌝ }
+{
+    Moment {
+        signals: m.signals,
+        lines: m.lines,
+        control: m.control,
+        status: m.status,
+        address: address_if(m.cyclic, m.address),
+        dout: byte_if(m.outward, m.dout),
+        din: byte_if(m.inward, m.din),
+        cyclic: m.cyclic,
+        outward: m.outward,
+        inward: m.inward,
+    }
+}
+
+fn address_if(driven: bool, address: u32) -> u32
+    ensures { λ r. ⌜ r ≡ cond driven address 0 ⌝ }
+{
+    if driven { address } else { 0 }
+}
+
+fn byte_if(driven: bool, byte: u8) -> u8
+    ensures { λ r. ⌜ r ≡ cond driven byte 0 ⌝ }
+{
+    if driven { byte } else { 0 }
 }
 
 // Pins 1 to 20.
 fn put_levels_1(m: Moment, out: &mut [u8])
     requires { ⌜ pictureLength ≤ length (now out) ⌝ }
-    ensures { λ _. ⌜ now (out .exit) ≡ sets (now (out .entry)) 0 (fiveLevels 0 m) ⌝ }
+    ensures { λ _. ⌜ now (out .exit) ≡ sets (now (out .entry)) 0 (fiveShown 0 m) ⌝ }
 {
     let lines = m.lines;
-    let cyclic = m.cyclic;
     let address = m.address;
     let signals = m.signals;
     put_five(
@@ -105,11 +136,11 @@ fn put_levels_1(m: Moment, out: &mut [u8])
         pin_digit(
             false,
             !(lines / D3 % 2 == 1),
-            cyclic & (address / A18 % 2 == 1),
-            cyclic & (address / A16 % 2 == 1),
+            address / A18 % 2 == 1,
+            address / A16 % 2 == 1,
         ),
         pin_digit(
-            cyclic & (address / A17 % 2 == 1),
+            address / A17 % 2 == 1,
             !(signals / SDSB % 2 == 1),
             !(signals / CDSB % 2 == 1),
             false,
@@ -120,13 +151,11 @@ fn put_levels_1(m: Moment, out: &mut [u8])
 // Pins 21 to 40.
 fn put_levels_21(m: Moment, out: &mut [u8])
     requires { ⌜ pictureLength ≤ length (now out) ⌝ }
-    ensures { λ _. ⌜ now (out .exit) ≡ sets (now (out .entry)) 5 (fiveLevels 5 m) ⌝ }
+    ensures { λ _. ⌜ now (out .exit) ≡ sets (now (out .entry)) 5 (fiveShown 5 m) ⌝ }
 {
     let signals = m.signals;
     let control = m.control;
-    let cyclic = m.cyclic;
     let address = m.address;
-    let outward = m.outward;
     let dout = m.dout;
     put_five(
         out,
@@ -144,22 +173,22 @@ fn put_levels_21(m: Moment, out: &mut [u8])
             false,
         ),
         pin_digit(
-            cyclic & (address / A5 % 2 == 1),
-            cyclic & (address / A4 % 2 == 1),
-            cyclic & (address / A3 % 2 == 1),
-            cyclic & (address / A15 % 2 == 1),
+            address / A5 % 2 == 1,
+            address / A4 % 2 == 1,
+            address / A3 % 2 == 1,
+            address / A15 % 2 == 1,
         ),
         pin_digit(
-            cyclic & (address / A12 % 2 == 1),
-            cyclic & (address / A9 % 2 == 1),
-            outward & (dout / D1 % 2 == 1),
-            outward & (dout / D0 % 2 == 1),
+            address / A12 % 2 == 1,
+            address / A9 % 2 == 1,
+            dout / D1 % 2 == 1,
+            dout / D0 % 2 == 1,
         ),
         pin_digit(
-            cyclic & (address / A10 % 2 == 1),
-            outward & (dout / D4 % 2 == 1),
-            outward & (dout / D5 % 2 == 1),
-            outward & (dout / D6 % 2 == 1),
+            address / A10 % 2 == 1,
+            dout / D4 % 2 == 1,
+            dout / D5 % 2 == 1,
+            dout / D6 % 2 == 1,
         ),
     );
 }
@@ -167,9 +196,8 @@ fn put_levels_21(m: Moment, out: &mut [u8])
 // Pins 41 to 60.
 fn put_levels_41(m: Moment, out: &mut [u8])
     requires { ⌜ pictureLength ≤ length (now out) ⌝ }
-    ensures { λ _. ⌜ now (out .exit) ≡ sets (now (out .entry)) 10 (fiveLevels 10 m) ⌝ }
+    ensures { λ _. ⌜ now (out .exit) ≡ sets (now (out .entry)) 10 (fiveShown 10 m) ⌝ }
 {
-    let inward = m.inward;
     let din = m.din;
     let cyclic = m.cyclic;
     let status = m.status;
@@ -180,9 +208,9 @@ fn put_levels_41(m: Moment, out: &mut [u8])
         out,
         10,
         pin_digit(
-            inward & (din / D2 % 2 == 1),
-            inward & (din / D3 % 2 == 1),
-            inward & (din / D7 % 2 == 1),
+            din / D2 % 2 == 1,
+            din / D3 % 2 == 1,
+            din / D7 % 2 == 1,
             cyclic & (status / S_M1 % 2 == 1),
         ),
         pin_digit(
@@ -196,7 +224,7 @@ fn put_levels_41(m: Moment, out: &mut [u8])
         pin_digit(
             !(lines / D2 % 2 == 1),
             cyclic & !(signals / S_XTRQ % 2 == 1),
-            cyclic & (address / A19 % 2 == 1),
+            address / A19 % 2 == 1,
             !(signals / SIXTN % 2 == 1),
         ),
     );
@@ -205,9 +233,8 @@ fn put_levels_41(m: Moment, out: &mut [u8])
 // Pins 61 to 80.
 fn put_levels_61(m: Moment, out: &mut [u8])
     requires { ⌜ pictureLength ≤ length (now out) ⌝ }
-    ensures { λ _. ⌜ now (out .exit) ≡ sets (now (out .entry)) 15 (fiveLevels 15 m) ⌝ }
+    ensures { λ _. ⌜ now (out .exit) ≡ sets (now (out .entry)) 15 (fiveShown 15 m) ⌝ }
 {
-    let cyclic = m.cyclic;
     let address = m.address;
     let control = m.control;
     let status = m.status;
@@ -216,10 +243,10 @@ fn put_levels_61(m: Moment, out: &mut [u8])
         out,
         15,
         pin_digit(
-            cyclic & (address / A20 % 2 == 1),
-            cyclic & (address / A21 % 2 == 1),
-            cyclic & (address / A22 % 2 == 1),
-            cyclic & (address / A23 % 2 == 1),
+            address / A20 % 2 == 1,
+            address / A21 % 2 == 1,
+            address / A22 % 2 == 1,
+            address / A23 % 2 == 1,
         ),
         pin_digit(
             false,
@@ -237,8 +264,8 @@ fn put_levels_61(m: Moment, out: &mut [u8])
         pin_digit(
             !(control / P_WR % 2 == 1),
             control / P_DBIN % 2 == 1,
-            cyclic & (address / A0 % 2 == 1),
-            cyclic & (address / A1 % 2 == 1),
+            address / A0 % 2 == 1,
+            address / A1 % 2 == 1,
         ),
     );
 }
@@ -246,40 +273,38 @@ fn put_levels_61(m: Moment, out: &mut [u8])
 // Pins 81 to 100.
 fn put_levels_81(m: Moment, out: &mut [u8])
     requires { ⌜ pictureLength ≤ length (now out) ⌝ }
-    ensures { λ _. ⌜ now (out .exit) ≡ sets (now (out .entry)) 20 (fiveLevels 20 m) ⌝ }
+    ensures { λ _. ⌜ now (out .exit) ≡ sets (now (out .entry)) 20 (fiveShown 20 m) ⌝ }
 {
     let cyclic = m.cyclic;
     let address = m.address;
-    let outward = m.outward;
     let dout = m.dout;
-    let inward = m.inward;
     let din = m.din;
     let status = m.status;
     put_five(
         out,
         20,
         pin_digit(
-            cyclic & (address / A2 % 2 == 1),
-            cyclic & (address / A6 % 2 == 1),
-            cyclic & (address / A7 % 2 == 1),
-            cyclic & (address / A8 % 2 == 1),
+            address / A2 % 2 == 1,
+            address / A6 % 2 == 1,
+            address / A7 % 2 == 1,
+            address / A8 % 2 == 1,
         ),
         pin_digit(
-            cyclic & (address / A13 % 2 == 1),
-            cyclic & (address / A14 % 2 == 1),
-            cyclic & (address / A11 % 2 == 1),
-            outward & (dout / D2 % 2 == 1),
+            address / A13 % 2 == 1,
+            address / A14 % 2 == 1,
+            address / A11 % 2 == 1,
+            dout / D2 % 2 == 1,
         ),
         pin_digit(
-            outward & (dout / D3 % 2 == 1),
-            outward & (dout / D7 % 2 == 1),
-            inward & (din / D4 % 2 == 1),
-            inward & (din / D5 % 2 == 1),
+            dout / D3 % 2 == 1,
+            dout / D7 % 2 == 1,
+            din / D4 % 2 == 1,
+            din / D5 % 2 == 1,
         ),
         pin_digit(
-            inward & (din / D6 % 2 == 1),
-            inward & (din / D1 % 2 == 1),
-            inward & (din / D0 % 2 == 1),
+            din / D6 % 2 == 1,
+            din / D1 % 2 == 1,
+            din / D0 % 2 == 1,
             false,
         ),
         pin_digit(cyclic & !(status / S_WO % 2 == 1), false, false, false),

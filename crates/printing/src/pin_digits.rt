@@ -31,6 +31,13 @@ fn weighed(b: bool, weight: u8) -> u8
     if b { weight } else { 0 }
 }
 
+// One of two digits.
+pub fn either(first: bool, a: u8, b: u8) -> u8
+    ensures { λ r. ⌜ r ≡ cond first a b ⌝ }
+{
+    if first { a } else { b }
+}
+
 pub fn put_five(out: &mut [u8], at: usize, a: u8, b: u8, c: u8, d: u8, e: u8)
     requires { ⌜ at + 5 ≤ length (now out) ⌝ }
     ensures { λ _. ⌜ now (out .exit) ≡ sets (now (out .entry)) at (a ∷ b ∷ c ∷ d ∷ e ∷ []) ⌝ }

@@ -1,4 +1,4 @@
-// The text program: it reads its input, hands the session what came, and writes the answers to standard output.
+// The text programs: they read their input, hand the session what came, and write what is wanted, answers or pictures, to standard output.
 ghost use Prim.Native.Nat.{_<_};
 ghost use mathlib.Core.Path.{_≡_};
 ghost use lib.ListN.{take};
@@ -9,6 +9,7 @@ use feeding::has_room;
 use libc::STDOUT_FILENO;
 use session::Session;
 use session::Stage;
+use session::Wanted;
 
 // A turn's end.
 struct Turn {
@@ -28,25 +29,32 @@ struct Filled {
 }
 
 // It has no result, and no contract can say what is read and written: the runs compare that.
-pub fn run(input: i32)
+pub fn run(wanted: Wanted, input: i32)
     ensures { λ r. ⌜ r ≡ tt ⌝ }
 {
     let mut text = [0u8; 32768];
     let mut out = io::large_buffer();
     let mut memory = [0u8; 65536];
     let mut ports = [0u8; 256];
-    take_turns(input, &mut text, &mut out, &mut memory, &mut ports);
+    take_turns(wanted, input, &mut text, &mut out, &mut memory, &mut ports);
 }
 
 // A proved loop ends, and no input is as long as this one may go on.
-fn take_turns(input: i32, text: &mut [u8], out: &mut [u8], memory: &mut [u8], ports: &mut [u8]) {
+fn take_turns(
+    wanted: Wanted,
+    input: i32,
+    text: &mut [u8],
+    out: &mut [u8],
+    memory: &mut [u8],
+    ports: &mut [u8],
+) {
     let mut left = u64::MAX;
     let mut session = fresh();
     let mut held: usize = 0;
     let mut reads = true;
     while 0 < left {
         let filled = fill(input, text, held, reads);
-        let turn = take_turn(session, filled, text, out, memory, ports);
+        let turn = take_turn(wanted, session, filled, text, out, memory, ports);
         session = turn.session;
         held = turn.held;
         reads = turn.reads;
@@ -63,6 +71,7 @@ fn turns_left(left: u64, goes_on: bool) -> u64
 
 // It reads only once every complete line is answered, so that nobody waits for an answer while the program waits for more.
 fn take_turn(
+    wanted: Wanted,
     session: Session,
     filled: Filled,
     text: &mut [u8],
@@ -70,16 +79,16 @@ fn take_turn(
     memory: &mut [u8],
     ports: &mut [u8],
 ) -> Turn {
-    let fed = feed(session, text, filled.size, out, memory, ports);
+    let fed = feed(wanted, session, text, filled.size, out, memory, ports);
     let is_written = write_front(out, fed.written);
     let next = fed.session;
     let stage = next.stage;
     let is_over = filled.failed | !is_written | has_ended(stage);
     let is_last = filled.ended & !is_over;
-    last(is_last, next, fed.held, text, out, memory, ports);
+    last(wanted, is_last, next, fed.held, text, out, memory, ports);
     Turn {
         goes_on: !is_over & !filled.ended,
-        reads: has_room(out, fed.written),
+        reads: has_room(wanted, out, fed.written),
         session: next,
         held: fed.held,
     }
@@ -95,6 +104,7 @@ fn has_ended(stage: Stage) -> bool {
 
 // Where the input has ended, the unended last line.
 fn last(
+    wanted: Wanted,
     is_last: bool,
     session: Session,
     held: usize,
@@ -106,7 +116,7 @@ fn last(
     if !is_last {
         return;
     }
-    let fed = finish(session, text, held, out, memory, ports);
+    let fed = finish(wanted, session, text, held, out, memory, ports);
     write_front(out, fed.written);
 }
 

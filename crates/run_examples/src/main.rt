@@ -14,7 +14,7 @@ fn run_file(n: usize) {
     let size = os::arg(n, &mut name);
     if size <= 64 {
         let input = os::open_read(&name[..size]);
-        program::run(input);
+        program::run(session::Wanted::Answers, input);
         libc::close(input);
     }
 }

@@ -1,4 +1,4 @@
 // The text program.
 fn main() {
-    program::run(libc::STDIN_FILENO);
+    program::run(session::Wanted::Answers, libc::STDIN_FILENO);
 }

@@ -30,8 +30,7 @@ returns c =
     let even = evenMoment (given .event) (given .answer) in
     let odd = oddMoment (given .event) (given .answer) in
     let place : List ℕ = at-first c .put-line .last .1 .0 in
-    let behind : List ℕ = midOf pictureLength (length place - pictureLength) place in
-    (
+    let behind : List ℕ = midOf pictureLength (length place - pictureLength) place in (
       sym (two-long even odd),
       split-put (given .out .now) place (at-second c .put-line2 .last .1 .0) even odd (start c .pre)
           (at-first c .put-line .ensures ∙ ap (λ (m : Moment). sets (given .out .now) 0 (pictureLine m)) (at-first c .before .before .even-moment .ensures))

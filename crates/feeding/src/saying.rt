@@ -1,0 +1,47 @@
+// What is written for a line, by what is wanted: answers or pictures.
+ghost use mathlib.Core.Path.{_≡_};
+ghost use Prim.Native.Nat.{_≤_};
+ghost use lib.ListN.{length};
+ghost use lib.Seq.{sets};
+ghost use Rattle.session.specs.World.{replyAs, eventAs, mostSaid};
+use events::Answer;
+use judgement::Event;
+use pins::sizes::MOST_PICTURED;
+use printing::put_answer;
+use printing::put_pictures;
+use session::Wanted;
+use text::ANSWER_LENGTH;
+
+// The most bytes that are written for a line.
+pub fn most_said(wanted: Wanted) -> usize
+    ensures { λ r. ⌜ r ≡ mostSaid wanted ⌝ }
+{
+    match wanted {
+        Wanted::Answers => ANSWER_LENGTH,
+        Wanted::Pictures => MOST_PICTURED,
+    }
+}
+
+// For a line that is no event.
+pub fn put_reply(wanted: Wanted, answer: Answer, out: &mut [u8]) -> usize
+    requires { ⌜ mostSaid wanted ≤ length (now out) ⌝ }
+    ensures put { λ r. ⌜ r ≡ length (replyAs wanted answer) ⌝ }
+    ensures left { λ _. ⌜ now (out .exit) ≡ sets (now (out .entry)) 0 (replyAs wanted answer) ⌝ }
+{
+    match wanted {
+        Wanted::Answers => put_answer(answer, out),
+        Wanted::Pictures => 0,
+    }
+}
+
+// For an event.
+pub fn put_event(wanted: Wanted, event: Event, answer: Answer, out: &mut [u8]) -> usize
+    requires { ⌜ mostSaid wanted ≤ length (now out) ⌝ }
+    ensures put { λ r. ⌜ r ≡ length (eventAs wanted event answer) ⌝ }
+    ensures left { λ _. ⌜ now (out .exit) ≡ sets (now (out .entry)) 0 (eventAs wanted event answer) ⌝ }
+{
+    match wanted {
+        Wanted::Answers => put_answer(answer, out),
+        Wanted::Pictures => put_pictures(event, answer, out),
+    }
+}

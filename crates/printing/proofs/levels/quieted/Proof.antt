@@ -1,0 +1,7 @@
+-- By what the calls give.
+use borrow.Author.Needs.{needs}
+use Rattle.printing.proofs.levels.quieted.Statement.{statement}
+use Rattle.printing.proofs.levels.quieted.Tie as tie
+
+pub quieted-spec : {M : Type 1} → statement M
+quieted-spec = tie.close (tie.spec (λ c κs. search needs) (λ c κs. search needs) (λ c κs. search needs) (λ c. cc))

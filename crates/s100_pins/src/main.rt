@@ -1,0 +1,4 @@
+// The text program that prints pictures of the pins.
+fn main() {
+    program::run(session::Wanted::Pictures, libc::STDIN_FILENO);
+}
