@@ -1,3 +1,4 @@
 -- Laws of pictures that the functions' proofs cite, and the promises' proofs.
 pub mod AsComputed
 pub mod DigitLaws
+pub mod GatherLaws

@@ -22,6 +22,7 @@ quieted-levels m = go (m .signals) (m .lines) (m .control) (m .status) (m .addre
     at : ℕ → ℕ → ℕ → ℕ → ℕ → ℕ → ℕ → Bool → Bool → Bool → Moment
     at s l k t a o i c out into =
         record { signals = s; lines = l; control = k; status = t; address = a; dout = o; din = i; cyclic = c; outward = out; inward = into }
+
     go : (s l k t a o i : ℕ) (c out into : Bool) → shownLevels (quieted (at s l k t a o i c out into)) ≡ levelsOf (at s l k t a o i c out into)
     go s l k t a o i true true true = refl
     go s l k t a o i true true false = refl

@@ -1,8 +1,9 @@
 // Where each field of an answer stands in a lent buffer. A caller has asked for the length before.
 ghost use mathlib.Core.Path.{_≡_};
 ghost use lib.ListN.{length};
-ghost use Rattle.s100_c.specs.Layout.{answerSize, answerBytes};
+ghost use Rattle.s100_c.specs.Layout.{answerSize, answerBytes, answerIn};
 use crate::layout::put_word;
+use crate::layout::word_at;
 use events::Answer;
 
 const REFUSAL_AT: usize = 0;
@@ -35,4 +36,20 @@ pub fn put_answer(answer: Answer, bytes: &mut [u8])
     bytes[STATUS_AT] = answer.status;
     bytes[CYCLES_AT] = answer.cycles;
     put_word(bytes, DATUM_AT, answer.datum);
+}
+
+pub fn answer_in(bytes: &[u8]) -> Answer
+    requires { ⌜ length (now bytes) ≡ answerSize ⌝ }
+    ensures { λ r. ⌜ r ≡ answerIn (now (bytes .entry)) ⌝ }
+{
+    Answer {
+        refusal: bytes[REFUSAL_AT],
+        phase: bytes[PHASE_AT],
+        granted: bytes[GRANTED_AT],
+        lines: bytes[LINES_AT],
+        signals: bytes[SIGNALS_AT],
+        status: bytes[STATUS_AT],
+        cycles: bytes[CYCLES_AT],
+        datum: word_at(bytes, DATUM_AT),
+    }
 }

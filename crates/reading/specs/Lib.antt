@@ -1,0 +1,2 @@
+-- What the inner functions find on a line of a picture.
+pub mod Signals
