@@ -187,25 +187,18 @@ struct Made {
     state: State,
 }
 
-#[derive(Default)]
-struct Reading {
-    line: Vec<u8>,
-    seen: [u8; SEEN_SIZE],
-}
-
 pub struct Both {
     pub library: Side,
     model: Side,
     pub tally: Tally,
     pub calls: u64,
     last: Option<Made>,
-    read: Reading,
     seed: u64,
 }
 
 impl Both {
     pub fn new(seed: u64) -> Both {
-        Both { library: Side::new(), model: Side::new(), tally: Tally::new(), calls: 0, last: None, read: Reading::default(), seed }
+        Both { library: Side::new(), model: Side::new(), tally: Tally::new(), calls: 0, last: None, seed }
     }
 
     pub fn state(&self) -> State {
@@ -274,8 +267,7 @@ impl Both {
         }
     }
 
-    /// What is read from each line of a picture of so many bytes. A line that was just read isn't read once more: most looks leave the pins
-    /// as they were.
+    /// What is read from each line of a picture of so many bytes.
     fn read_back(&mut self, written: u32, lent: Lengths) -> Vec<[u8; SEEN_SIZE]> {
         let mut read = Vec::new();
         if written == Refusal::WrongLength as u32 {
@@ -283,13 +275,9 @@ impl Both {
         }
         let text = self.library.lines.bytes()[..written as usize].to_vec();
         for line in text.chunks(PICTURE_DIGITS + 1).map(|ended| &ended[..PICTURE_DIGITS]) {
-            if lent.seen != RIGHT.seen || self.read.line != line {
-                if self.compare(Call::ReadPicture { line: line.to_vec() }, lent) != 0 {
-                    continue;
-                }
-                self.read = Reading { line: line.to_vec(), seen: self.library.seen.bytes().try_into().expect("all that is read") };
+            if self.compare(Call::ReadPicture { line: line.to_vec() }, lent) == 0 {
+                read.push(self.library.seen.bytes().try_into().expect("all that is read"));
             }
-            read.push(self.read.seen);
         }
         read
     }

@@ -7,7 +7,7 @@ use native.Mathlib.Omega.{arith}
 use lib.Dec.{eqb}
 use lib.ListN.{length, set, length-append}
 use lib.Seq.{sets}
-use borrow.Author.Tests.{ne-eqb}
+use borrow.Author.Tests.{ne-eqb, le-leb}
 use Rattle.words.proofs.BelowLaws.{list-below-long}
 use Rattle.words.proofs.PartLaws.{sets-append}
 use Rattle.phases.specs.Kind as Kind
@@ -17,7 +17,7 @@ use Rattle.judgement.specs.declared.event.Event.{Event}
 use Rattle.events.specs.declared.answers.Answer.{Answer}
 use Rattle.text.specs.Newlines.{newline}
 use Rattle.pins.specs.Moments.{idleMoment, byteMoment, wordMoment, evenMoment, oddMoment, isSplit, hasStrobe, momentsOf}
-use Rattle.pins.specs.Picture.{fourBits, levelDigits, pictureDigits, levelsOf, drivenOf, pictureOf, pictureLine, pictureLength, mostPictured, picturesOf, linesFor}
+use Rattle.pins.specs.Picture.{fourBits, levelDigits, pictureDigits, levelsOf, drivenOf, pictureOf, pictureLine, pictureLength, mostPictured, picturesOf, linesFor, pictured, bytesPictured}
 use Rattle.pins.specs.declared.moments.Moment.{Moment}
 
 pub four-bits-small : (a b c d : Bool) → fourBits a b c d < 16
@@ -127,3 +127,8 @@ pictures-fit event answer =
 pub no-picture : (event : Event) (answer : Answer) → (answer .refusal ≡ accepted → ⊥) → picturesOf event answer ≡ []
 unfolding momentsOf linesFor
 no-picture event answer refused = rw (ne-eqb (answer .refusal) accepted refused) refl
+
+-- where there is room
+pub pictured-fits : (event : Event) (answer : Answer) (place : List ℕ) → mostPictured ≤ length place
+    → (bytesPictured event answer place ≡ length (picturesOf event answer)) × (pictured event answer place ≡ sets place 0 (picturesOf event answer))
+pictured-fits event answer place room = rw (le-leb mostPictured (length place) room) (refl, refl)

@@ -15,6 +15,9 @@ use Rattle.s100_c.specs.Layout.{twoBytes, byteAt, wordAt, stateLayout, s
 abbrev pub stateAt : ℕ → ℕ
 stateAt n = placeOf n (widthsOf stateLayout)
 
+abbrev pub answerAt : ℕ → ℕ
+answerAt n = placeOf n (widthsOf answerLayout)
+
 -- ---- Read
 
 pub byte-there : (at : ℕ) (bytes : List ℕ) → getD bytes at 0 ≡ byteAt at bytes

@@ -7,11 +7,11 @@ use Rattle.program.proofs.take_turns.Statement.{statement}
 use Rattle.program.proofs.take_turns.Tie as tie
 
 abbrev Inv-loop : tie.InvT-loop
-Inv-loop input text₀ out₀ memory₀ ports₀ left₀ session₀ held₀ reads₀ text out memory ports left session held reads =
+Inv-loop wanted input text₀ out₀ memory₀ ports₀ left₀ session₀ held₀ reads₀ text out memory ports left session held reads =
     (length text ≡ length text₀) × ((length out ≡ length out₀) × ((length memory ≡ length memory₀) × (length ports ≡ length ports₀)))
 
 abbrev μ-loop : tie.MeasureT-loop
-μ-loop input text₀ out₀ memory₀ ports₀ left₀ session₀ held₀ reads₀ text out memory ports left session held reads = left
+μ-loop wanted input text₀ out₀ memory₀ ports₀ left₀ session₀ held₀ reads₀ text out memory ports left session held reads = left
 
 -- ---- Places
 
@@ -47,7 +47,7 @@ loop-again c =
     let turn = c .before .before .before .before .before .before .before .before .before .before in
     let filled = at-fill turn in
     let inv = at-loop filled .loop .inv in
-    let kept = turn .take-turn .kept .1 .1 in
+    let kept = turn .take-turn .kept .1 .1 .1 in
     (kept .0 ∙ filled .fill .kept .1 .0 ∙ inv .0, (kept .1 .0 ∙ inv .1 .0, (kept .1 .1 .0 ∙ inv .1 .1 .0, kept .1 .1 .1 .0 ∙ inv .1 .1 .1)))
 
 same-length : tie.Need-same-length Inv-loop μ-loop

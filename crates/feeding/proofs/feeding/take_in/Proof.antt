@@ -35,8 +35,8 @@ hold-requires : tie.Need-hold-requires
 hold-requires c κs =
     let lines = c .before .before .before .before .before .before .before in
     let from = start lines in (
-      used-within (given lines) (from .args .text .now) (from .args .out .now) (from .args .filled) (lines .take-lines .result) (from .pre .0)
-          (lines .take-lines .ensures .0),
+      used-within (from .args .wanted) (given lines) (from .args .text .now) (from .args .out .now) (from .args .filled) (lines .take-lines .result)
+          (from .pre .0) (lines .take-lines .ensures .0),
       from .pre .0,
     )
 
@@ -57,7 +57,7 @@ returns c =
     let held = c .before .before .before in
     let lines = at-lines held in
     let from = start lines .args in
-    fed-taken (given lines) (from .text .now) (from .out .now) (from .filled) (lines .take-lines .result) (held .hold .result) _ _ _ _
+    fed-taken (from .wanted) (given lines) (from .text .now) (from .out .now) (from .filled) (lines .take-lines .result) (held .hold .result) _ _ _ _
     (lines .take-lines .ensures) (held .hold .ensures .0) (held .hold .ensures .1)
 
 pub take-in-spec : {M : Type 1} → statement M

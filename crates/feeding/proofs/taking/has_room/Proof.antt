@@ -1,24 +1,39 @@
 -- More written than there is place leaves no room.
-use mathlib.Core.Path.{sym}
-use Prim.Native.Nat.{_-_}
+use mathlib.Core.Path.{sym, ap}
+use Prim.Native.Nat.{_-_, _<_}
 use native.Mathlib.Omega.{arith}
 use borrow.Author.Needs.{needs}
 use borrow.Author.Tests.{lt-leb}
+use lib.Dec.{leb}
 use lib.ListN.{length}
 use Rattle.session.specs.World.{mostSaid}
+use Rattle.session.specs.declared.state.Wanted.{Wanted}
+use Rattle.session.specs.declared.state.Wanted.the-variants.{Answers, Pictures}
 use Rattle.feeding.proofs.taking.has_room.Statement.{statement}
 use Rattle.feeding.proofs.taking.has_room.Tie as tie
+
+-- whatever is wanted, a line takes some room
+takes-room : (wanted : Wanted) → 0 < mostSaid wanted
+takes-room Answers = omega arith
+takes-room Pictures = omega arith
+
+abbrev start : tie.After-shared-slice-known → tie.Start
+start c = c .before
+
+most-said-requires : tie.Need-most-said-requires
+most-said-requires c κs = search needs
 
 sub-result : tie.Need-sub-result
 sub-result c = search needs
 
 returns : tie.Need-returns
-returns c = search needs
+returns c =
+    let from = start (c .before .before) .args in ap (λ n. leb n (length (from .out .now) - from .written)) (c .most-said .ensures)
 
 returns-2 : tie.Need-returns-2
 returns-2 c =
-    let place = length (c .before .args .out .now) in
-    sym (lt-leb mostSaid (place - c .before .args .written) (omega (arith, c .if1 .left)))
+    let from = start (c .before) .args in
+    sym (lt-leb (mostSaid (from .wanted)) (length (from .out .now) - from .written) (omega (arith, c .if1 .left, takes-room (from .wanted))))
 
 pub has-room-spec : {M : Type 1} → statement M
-has-room-spec = tie.close (tie.spec sub-result returns returns-2)
+has-room-spec = tie.close (tie.spec most-said-requires sub-result returns returns-2)

@@ -25,16 +25,17 @@ told-requires-2 c κs = search needs
 returns : tie.Need-returns
 returns c =
     let at = c .before .before in
-    λ m p.
+    λ wanted m p.
     c .told .ensures
-    ∙ passed (start at .args .bus) (start at .args .rest .now) (at .line-end .result) (at .line-end .ensures) (c .before .if1 .taken) m p
+    ∙ passed wanted (start at .args .bus) (start at .args .rest .now) (at .line-end .result) (at .line-end .ensures) (c .before .if1 .taken) m p
 
 returns-2 : tie.Need-returns-2
 returns-2 c =
     let at = c .before .before in
-    λ m p.
+    λ wanted m p.
     c .told2 .ensures
-    ∙ not-taken Ended (start at .args .bus) (start at .args .rest .now) [] (at .line-end .result) (at .line-end .ensures) (c .before .if1 .left) .0 m p
+    ∙ not-taken wanted Ended (start at .args .bus) (start at .args .rest .now) [] (at .line-end .result) (at .line-end .ensures)
+    (c .before .if1 .left) .0 m p
 
 pub pass-line-spec : {M : Type 1} → statement M
 pass-line-spec = tie.close (tie.spec line-end-requires add-told told-requires told-requires-2 returns returns-2)

@@ -18,7 +18,7 @@ abbrev start : tie.After-next-line → tie.Start
 start c = c .before .before .before .before .before
 
 -- the line is an event's, and its step has been taken
-abbrev at-step : tie.After-put-answer → tie.After-sound-step
+abbrev at-step : tie.After-put-event → tie.After-sound-step
 at-step c = c .before .before .before .before .before .before .before .before
 
 abbrev at-frame : tie.After-sound-step → tie.After-line
@@ -28,7 +28,7 @@ framed-line : (c : tie.After-line) → Line.Frame (c .line .given .0 .0) ≡ nex
 framed-line c = sym (c .line .given .1) ∙ c .before .before .next-line .ensures
 
 -- the line is bad
-abbrev at-bad : tie.After-put-answer2 → tie.After-line2
+abbrev at-bad : tie.After-put-reply → tie.After-line2
 at-bad c = c .before .before .before .before
 
 spoilt-line : (c : tie.After-line2) → Line.Bad (c .line2 .given .0 .0) ≡ nextLine (start (c .before .before) .args .rest .now)
@@ -45,8 +45,8 @@ enum-known-line c = search needs
 sound-step-requires : tie.Need-sound-step-requires
 sound-step-requires c κs = search needs
 
-put-answer-requires : tie.Need-put-answer-requires
-put-answer-requires c κs = search needs
+put-event-requires : tie.Need-put-event-requires
+put-event-requires c κs = search needs
 
 told-requires : tie.Need-told-requires
 told-requires c κs = search needs
@@ -57,8 +57,8 @@ enum-known-line-2 c = search needs
 bare-requires : tie.Need-bare-requires
 bare-requires c κs = search needs
 
-put-answer-requires-2 : tie.Need-put-answer-requires-2
-put-answer-requires-2 c κs = search needs
+put-reply-requires : tie.Need-put-reply-requires
+put-reply-requires c κs = search needs
 
 add-told : tie.Need-add-told
 add-told c =
@@ -92,9 +92,9 @@ returns c =
     let line = at-frame step in
     let from = start (line .before .before) in
     rw (c .told .ensures) (
-    frame-taken (from .args .bus) (from .args .memory .now) (from .args .ports .now) (from .args .rest .now) (from .args .out .now)
-    (from .pre .0) _ _ (put .put-answer .ensures .0) _ (framed-line line) (from .pre .1 .0) (from .pre .1 .1) _ _ _
-    (step .sound-step .ensures .0) (step .sound-step .ensures .1 .0) (step .sound-step .ensures .1 .1) (put .put-answer .ensures .1))
+    frame-taken (from .args .wanted) (from .args .bus) (from .args .memory .now) (from .args .ports .now) (from .args .rest .now) (from .args .out .now)
+    _ _ _ (framed-line line) (from .pre .1 .0) (from .pre .1 .1) _ _ _ (step .sound-step .ensures .0) (step .sound-step .ensures .1 .0)
+    (step .sound-step .ensures .1 .1) (put .put-event .ensures .0) (put .put-event .ensures .1))
 
 same-length-4 : tie.Need-same-length-4
 same-length-4 c = search needs
@@ -105,15 +105,15 @@ returns-2 c =
     let line = at-bad put in
     let from = start (line .before .before) in
     rw (c .told2 .ensures) (
-    bad-taken (from .args .bus) (from .args .memory .now) (from .args .ports .now) (from .args .rest .now) (from .args .out .now)
-    (from .pre .0) _ _ (put .put-answer2 .ensures .0) _ (spoilt-line line) _ (put .before .before .bare .ensures) (put .put-answer2 .ensures .1))
+    bad-taken (from .args .wanted) (from .args .bus) (from .args .memory .now) (from .args .ports .now) (from .args .rest .now) (from .args .out .now)
+    _ _ _ (spoilt-line line) _ (put .before .before .bare .ensures) (put .put-reply .ensures .0) (put .put-reply .ensures .1))
 
 returns-3 : tie.Need-returns-3
 returns-3 c =
     let line = c .before in
     let from = start (line .before .before) in
     rw (c .told3 .ensures) (
-    none-ended (from .args .bus) (from .args .memory .now) (from .args .ports .now) (from .args .rest .now) (from .args .out .now)
+    none-ended (from .args .wanted) (from .args .bus) (from .args .memory .now) (from .args .ports .now) (from .args .rest .now) (from .args .out .now)
     (sym (line .enum-told .given .1) ∙ line .before .before .next-line .ensures))
 
 pub take-event-spec : {M : Type 1} → statement M
@@ -123,11 +123,11 @@ take-event-spec =
     next-line-requires
     enum-known-line
     sound-step-requires
-    put-answer-requires
+    put-event-requires
     told-requires
     enum-known-line-2
     bare-requires
-    put-answer-requires-2
+    put-reply-requires
     add-told
     told-requires-2
     enum-told

@@ -3,8 +3,8 @@ use mathlib.Core.Path.{sym, ap, _∙_}
 use native.Mathlib.Omega.{arith}
 use borrow.Author.Needs.{needs}
 use lib.ListN.{length}
-use lib.Seq.{length-take-le}
-use Rattle.text.specs.AnswerLine.{printed}
+use lib.Seq.{sets, length-take-le}
+use Rattle.session.specs.World.{replyAs}
 use Rattle.session.specs.declared.state.Stage.the-variants.{Awaiting}
 use Rattle.session.proofs.LineLaws.{setup-taken, not-taken}
 use Rattle.feeding.proofs.taking.take_setup.Statement.{statement}
@@ -19,7 +19,7 @@ start c = c .before .before .before
 abbrev at-line : tie.After-set-up → tie.Then1
 at-line c = c .before .before
 
-abbrev at-set-up : tie.After-put-answer → tie.After-set-up
+abbrev at-set-up : tie.After-put-reply → tie.After-set-up
 at-set-up c = c .before .before .before
 
 -- ---- Needs
@@ -38,8 +38,8 @@ set-up-requires c κs = search needs
 setup-answer-requires : tie.Need-setup-answer-requires
 setup-answer-requires c κs = search needs
 
-put-answer-requires : tie.Need-put-answer-requires
-put-answer-requires c κs = search needs
+put-reply-requires : tie.Need-put-reply-requires
+put-reply-requires c κs = search needs
 
 stage-after-requires : tie.Need-stage-after-requires
 stage-after-requires c κs = search needs
@@ -63,17 +63,17 @@ returns c =
     let line = at-line given in
     let from = start (line .before) in
     rw (c .told .ensures, c .before .stage-after .ensures) (
-    setup-taken (from .args .bus) (from .args .rest .now) (from .args .out .now) (line .before .line-end .result)
-    (line .before .line-end .ensures) (line .if1 .taken) (from .pre) (given .set-up .result) _ _ (given .set-up .ensures)
-    (put .put-answer .ensures .0)
-    (put .put-answer .ensures .1 ∙ ap (λ a. printed a (from .args .out .now)) (put .before .before .setup-answer .ensures)))
+    setup-taken (from .args .wanted) (from .args .bus) (from .args .rest .now) (from .args .out .now) (line .before .line-end .result)
+    (line .before .line-end .ensures) (line .if1 .taken) (given .set-up .result) _ _ (given .set-up .ensures)
+    (put .put-reply .ensures .0 ∙ ap (λ a. length (replyAs (from .args .wanted) a)) (put .before .before .setup-answer .ensures))
+    (put .put-reply .ensures .1 ∙ ap (λ a. sets (from .args .out .now) 0 (replyAs (from .args .wanted) a)) (put .before .before .setup-answer .ensures)))
 
 returns-2 : tie.Need-returns-2
 returns-2 c =
     let line = c .before in
     let from = start (line .before) in
     rw (c .told2 .ensures) (
-    not-taken Awaiting (from .args .bus) (from .args .rest .now) (from .args .out .now) (line .before .line-end .result)
+    not-taken (from .args .wanted) Awaiting (from .args .bus) (from .args .rest .now) (from .args .out .now) (line .before .line-end .result)
     (line .before .line-end .ensures) (line .if1 .left))
 
 pub take-setup-spec : {M : Type 1} → statement M
@@ -84,7 +84,7 @@ take-setup-spec =
     slice-aggregate-set-up
     set-up-requires
     setup-answer-requires
-    put-answer-requires
+    put-reply-requires
     stage-after-requires
     add-told
     told-requires

@@ -1,0 +1,2 @@
+-- Laws that proofs of two functions cite.
+pub mod SayingLaws

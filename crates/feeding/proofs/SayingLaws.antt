@@ -1,0 +1,33 @@
+-- What is put for a line, where there is room for the most that is wanted.
+use mathlib.Core.Path.{_≡_, sym, subst, _∙_}
+use mathlib.Core.List.{List}
+use Prim.Native.Nat.{ℕ, _≤_}
+use borrow.Author.Tests.{le-leb}
+use lib.ListN.{length}
+use lib.Seq.{sets}
+use Rattle.judgement.specs.declared.event.Event.{Event}
+use Rattle.events.specs.declared.answers.Answer.{Answer}
+use Rattle.text.specs.AnswerLine.{answerLine, answerLength, bytesPut, printed}
+use Rattle.text.proofs.ReadingLaws.{answer-long, printed-fits, bytes-fit}
+use Rattle.pins.specs.Picture.{mostPictured, picturesOf, bytesPictured, pictured}
+use Rattle.session.specs.World.{mostSaid}
+use Rattle.session.specs.declared.state.Wanted.{Wanted}
+
+-- these bytes were counted, and stand at the front of the place
+abbrev pub PutAs : List ℕ → List ℕ → ℕ → List ℕ → Type 0
+PutAs bytes place written left = (written ≡ length bytes) × (left ≡ sets place 0 bytes)
+
+module _ (place : List ℕ) (written : ℕ) (left : List ℕ) where
+  pub answer-put : (answer : Answer) → answerLength ≤ length place → (written ≡ bytesPut place) × (left ≡ printed answer place)
+      → PutAs (answerLine answer) place written left
+  answer-put answer room put = (put .0 ∙ bytes-fit place room ∙ sym (answer-long answer), put .1 ∙ printed-fits answer place room)
+
+  pub pictures-put : (event : Event) (answer : Answer) → mostPictured ≤ length place
+      → (written ≡ bytesPictured event answer place) × (left ≡ pictured event answer place) → PutAs (picturesOf event answer) place written left
+  pictures-put event answer room put = rw (le-leb mostPictured (length place) room) at put
+
+  -- what was found to be wanted
+  pub as-found : (says : Wanted → List ℕ) (wanted found : Wanted) → wanted ≡ found → mostSaid wanted ≤ length place
+      → (mostSaid found ≤ length place → PutAs (says found) place written left) → PutAs (says wanted) place written left
+  as-found says wanted found is room put =
+      subst (λ (w : Wanted). PutAs (says w) place written left) (sym is) (put (subst (λ (w : Wanted). mostSaid w ≤ length place) is room))
