@@ -1,4 +1,4 @@
-"""A word over an eight-bit and over a sixteen-bit page, and a request while the bus is being given back, in Python.
+"""A word over both kinds of page, with the pictures of its pins, and a request while the bus is being given back, in Python.
 
 python3 halves.py LIBRARY, a shared library that was made of libs100_c.a.
 """
@@ -12,8 +12,12 @@ REQUEST, LOOK, ACKNOWLEDGE, BEGIN_ONE, TAKE, WORD_READ, WORD_WRITE, BEGIN_TWO, G
 PERMANENT_MASTER = 16
 EIGHT_BIT, SIXTEEN_BIT = 1, 2
 SIGNALS = ["HOLD", "pHLDA", "ADSB", "SDSB", "DODSB", "CDSB", "SIXTN", "sXTRQ"]
+# 003, Appendix B, the pin of bit 0 first.
+DATA_PINS = {"DO": [36, 35, 88, 89, 38, 39, 40, 90], "DI": [95, 94, 41, 42, 91, 92, 93, 43]}
 
 Answer = collections.namedtuple("Answer", "refusal phase granted lines signals status cycles datum")
+ANSWER_BYTES = ">7BH"
+Seen = collections.namedtuple("Seen", "phase signals lines")
 
 library = ctypes.CDLL(sys.argv[1])
 BYTES, LENGTH, U8, U16, U32 = ctypes.POINTER(ctypes.c_uint8), ctypes.c_size_t, ctypes.c_uint8, ctypes.c_uint16, ctypes.c_uint32
@@ -21,6 +25,10 @@ library.s100_setup.argtypes = [U16, BYTES, LENGTH, BYTES, LENGTH]
 library.s100_setup.restype = U8
 library.s100_step.argtypes = [BYTES, LENGTH, U8, U8, U32, U16, BYTES, LENGTH, BYTES, LENGTH, BYTES, LENGTH]
 library.s100_step.restype = U8
+library.s100_picture.argtypes = [U8, U32, BYTES, LENGTH, BYTES, LENGTH]
+library.s100_picture.restype = U8
+library.s100_read_picture.argtypes = [BYTES, LENGTH, BYTES, LENGTH]
+library.s100_read_picture.restype = U8
 
 
 class Bus:
@@ -35,21 +43,52 @@ class Bus:
         answer = (U8 * 9)()
         lent = (self.memory, len(self.memory), self.ports, len(self.ports), answer, len(answer))
         library.s100_step(self.state, len(self.state), kind, speaker, address, datum, *lent)
-        return Answer._make(struct.unpack(">7BH", answer))
+        return Answer._make(struct.unpack(ANSWER_BYTES, answer))
 
 
-def true_signals(answer):
-    return " ".join(name for bit, name in enumerate(SIGNALS) if answer.signals >> bit & 1) or "none"
+def pictures(kind, address, answer):
+    """The lines of an event's picture, which go by the event and its answer alone."""
+    answer, lines = (U8 * 9)(*struct.pack(ANSWER_BYTES, *answer)), (U8 * 102)()
+    size = library.s100_picture(kind, address, answer, len(answer), lines, len(lines))
+    return bytes(lines[:size]).decode().splitlines()
+
+
+def read_picture(line):
+    digits, seen = (U8 * len(line))(*line.encode()), (U8 * 3)()
+    if library.s100_read_picture(digits, len(digits), seen, len(seen)) != 0:
+        raise ValueError("the line was refused")
+    return Seen._make(seen)
+
+
+def number_on(pins, half):
+    """The number that stands on these pins in one half of a line, where pin 1 is the top bit."""
+    return sum((int(half, 16) >> 100 - pin & 1) << bit for bit, pin in enumerate(pins))
+
+
+def true_signals(shown):
+    return " ".join(name for bit, name in enumerate(SIGNALS) if shown.signals >> bit & 1) or "none"
+
+
+def print_pictures(kind, address, answer):
+    # Against the common belief, in a word that goes in one cycle the byte at the lower address is on DO (01, "Bytes, words, status"). In two
+    # cycles each goes as a byte does: written on DO, read on DI (02, CR 1).
+    lines = pictures(kind, address, answer)
+    for line in lines:
+        levels, driven = line[:25], line[25:]
+        carried = (f"{name} {number_on(pins, levels):02X}" for name, pins in DATA_PINS.items() if number_on(pins, driven) == 0xFF)
+        print(f"  levels {levels}, driven {driven}:", *carried)
+    seen = read_picture(lines[0])
+    print(f"  the first read back: phase {seen.phase}, signals {true_signals(seen)}, priority lines {seen.lines}")
 
 
 def write_and_read(bus, page, address):
     wrote = bus.step(WORD_WRITE, PERMANENT_MASTER, address, 0x1234)
     print(f"write of 1234 to {page} page: answer {wrote.refusal:02X}, cycles {wrote.cycles}, signals {true_signals(wrote)}")
-    # Against the common belief, the lower address goes on DO (01, "Bytes, words, status").
-    print(f"  even address, on the DO lines: {bus.memory[address]:02X}")
-    print(f"  odd address, on the DI lines: {bus.memory[address + 1]:02X}")
+    print_pictures(WORD_WRITE, address, wrote)
+    print(f"  even address: {bus.memory[address]:02X}, odd address: {bus.memory[address + 1]:02X}")
     read = bus.step(WORD_READ, PERMANENT_MASTER, address)
     print(f"read of it: {read.datum:04X}, cycles {read.cycles}, signals {true_signals(read)}")
+    print_pictures(WORD_READ, address, read)
 
 
 def print_request(answer):

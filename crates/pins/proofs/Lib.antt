@@ -2,3 +2,5 @@
 pub mod AsComputed
 pub mod DigitLaws
 pub mod GatherLaws
+pub mod PinLaws
+pub mod MomentLaws

@@ -1,2 +1,240 @@
--- What is promised of pictures. The proof of each stands in proofs/ under its name in lower case, with hyphens.
-use Prim.Native.Nat.{ℕ}
+-- What is promised of pictures (02, CR 1). The proof of each stands in proofs/ under its name in lower case, with hyphens.
+use Prim.Native.Nat.{ℕ, _+_, _-_, _*_, _<_, _≤_}
+use mathlib.Core.Path.{_≡_}
+use mathlib.Core.Logic.{_⊎_}
+use mathlib.Core.Bool.{Bool, true, false, cond, not, _&&_}
+use mathlib.Core.List.{List, [], _∷_, _++_}
+use lib.ListN.{length, getD, take}
+use Rattle.words.specs.Among.{isAmong, everyListed}
+use Rattle.phases.specs.Phase as Phase
+use Rattle.phases.specs.Kind as Kind
+use Rattle.bus.specs.Refusal as Refusal
+use Rattle.judgement.specs.Table.{isCycle}
+use Rattle.judgement.specs.declared.event.Event.{Event}
+use Rattle.events.specs.Machine.{Machine}
+use Rattle.events.specs.Step.{refusalIn, after, answerTo}
+use Rattle.events.specs.Promises.{codeThere}
+use Rattle.events.specs.declared.answers.Answer.{Answer}
+use Rattle.text.specs.Digits.{isDigits}
+use Rattle.text.specs.Newlines.{newline}
+use Rattle.pins.specs.BusLine.{isDriven}
+use Rattle.pins.specs.Pin.{pinAt, isHigh}
+use Rattle.pins.specs.Picture.{pictureOf, pictureLine, picturesOf}
+use Rattle.pins.specs.ReadAgain.{highOn, drivenOn, seen, pictureIn}
+use Rattle.pins.specs.declared.moments.Moment.{Moment}
+
+-- ---- Every line
+
+-- Fifty digits, and with its newline fifty-one bytes.
+abbrev pub FiftyDigits : Type 0
+FiftyDigits = (m : Moment) → (isDigits 50 (pictureOf m) ≡ true) × (length (pictureLine m) ≡ 51)
+
+-- Each of the hundred pins, found by its number on the line, goes by the table's rule;
+abbrev pub PinByRule : Type 0
+PinByRule =
+    (m : Moment) (n : ℕ) → 1 ≤ n → n ≤ 100
+    → (drivenOn (pictureOf m) n ≡ isDriven (pinAt n .line) m) × (highOn (pictureOf m) n ≡ isHigh (pinAt n) m)
+
+-- one that isn't driven is low.
+abbrev pub UndrivenIsLow : Type 0
+UndrivenIsLow = (m : Moment) (n : ℕ) → 1 ≤ n → n ≤ 100 → drivenOn (pictureOf m) n ≡ false → highOn (pictureOf m) n ≡ false
+
+-- ---- The pins by the names of their lines: from line to pin, where the table goes from pin to line
+
+abbrev pub addressPins : List ℕ
+addressPins =
+    79 ∷ 80 ∷ 81 ∷ 31 ∷ 30 ∷ 29 ∷ 82 ∷ 83 ∷ 84 ∷ 34 ∷ 37 ∷ 87 ∷ 33 ∷ 85 ∷ 86 ∷ 32 ∷ 16 ∷ 17 ∷ 15 ∷ 59 ∷ 61 ∷ 62 ∷ 63 ∷ 64 ∷ []
+
+-- DO0 to DO7, DI0 to DI7, DMA0 to DMA3
+abbrev pub outPins : List ℕ
+outPins = 36 ∷ 35 ∷ 88 ∷ 89 ∷ 38 ∷ 39 ∷ 40 ∷ 90 ∷ []
+
+abbrev pub inPins : List ℕ
+inPins = 95 ∷ 94 ∷ 41 ∷ 42 ∷ 91 ∷ 92 ∷ 93 ∷ 43 ∷ []
+
+abbrev pub priorityPins : List ℕ
+priorityPins = 55 ∷ 56 ∷ 57 ∷ 14 ∷ []
+
+-- sM1, sOUT, sINP, sMEMR, sXTRQ and sWO
+abbrev pub statusPins : List ℕ
+statusPins = 44 ∷ 45 ∷ 46 ∷ 47 ∷ 58 ∷ 97 ∷ []
+
+-- pulled up, MWRT, and the control outputs
+abbrev pub alwaysPins : List ℕ
+alwaysPins = 14 ∷ 18 ∷ 19 ∷ 22 ∷ 23 ∷ 25 ∷ 26 ∷ 55 ∷ 56 ∷ 57 ∷ 60 ∷ 68 ∷ 74 ∷ 76 ∷ 77 ∷ 78 ∷ []
+
+-- power, ground, and lines that the model lacks
+abbrev pub neverPins : List ℕ
+neverPins =
+    1 ∷ 2 ∷ 3 ∷ 4 ∷ 5 ∷ 6 ∷ 7 ∷ 8 ∷ 9 ∷ 10 ∷ 11 ∷ 12 ∷ 13 ∷ 20 ∷ 21 ∷ 24 ∷ 27 ∷ 28 ∷ 48 ∷ 49 ∷ 50 ∷ 51 ∷ 52 ∷ 53 ∷ 54 ∷ 65 ∷ 66 ∷ 67 ∷ 69 ∷ 70 ∷ 71 ∷ 72
+    ∷ 73 ∷ 75 ∷ 96 ∷ 98 ∷ 99 ∷ 100 ∷ []
+
+-- the number that high pins write, the lowest bit's pin first
+abbrev pub numberOn : List ℕ → List ℕ → ℕ
+numberOn line [] = 0
+numberOn line (pin ∷ pins) = cond (highOn line pin) 1 0 + 2 * numberOn line pins
+
+abbrev pub allDriven : List ℕ → List ℕ → Type 0
+allDriven line pins = everyListed (drivenOn line) pins ≡ true
+
+abbrev pub noneDriven : List ℕ → List ℕ → Type 0
+noneDriven line pins = everyListed (λ n. not (drivenOn line n)) pins ≡ true
+
+-- ---- What each line shows
+
+-- Of the bus in a phase, with a number on the priority lines: HOLD, pHLDA and the disable lines are the phase's, pSYNC and pSTVAL false; what is
+-- pulled up is driven, and so are MWRT and the control outputs; what the model lacks is not. MWRT is pWR true and sOUT false.
+pub record BusShown (phase lines : ℕ) (line : List ℕ) : Type 0 where
+  pub hold : highOn line 74 ≡ not (Phase.isFrom Phase.arbitration Phase.owned phase)
+  pub hlda : highOn line 26 ≡ Phase.isFrom Phase.granted Phase.transferTwo phase
+  pub adsb : highOn line 22 ≡ not (Phase.isFrom Phase.transferOne Phase.transferTwo phase)
+  pub sdsb : highOn line 18 ≡ not (Phase.isFrom Phase.transferOne Phase.transferTwo phase)
+  pub dodsb : highOn line 23 ≡ not (Phase.isFrom Phase.transferOne Phase.transferTwo phase)
+  pub cdsb : highOn line 19 ≡ not (Phase.isFrom Phase.owned Phase.owned phase)
+  pub priority : numberOn line priorityPins ≡ 15 - lines
+  pub sync : highOn line 76 ≡ false
+  pub stval : highOn line 25 ≡ true
+  pub mwrt : highOn line 68 ≡ (not (highOn line 77) && not (drivenOn line 45 && highOn line 45))
+  pub always : allDriven line alwaysPins
+  pub never : noneDriven line neverPins
+
+-- With no cycle on: no strobe, no SIXTN, and neither address nor status nor data driven.
+pub record NoCycle (line : List ℕ) : Type 0 where
+  pub dbin : highOn line 78 ≡ false
+  pub wr : highOn line 77 ≡ true
+  pub sixtn : highOn line 60 ≡ true
+  pub address : noneDriven line addressPins
+  pub status : noneDriven line statusPins
+  pub out : noneDriven line outPins
+  pub into : noneDriven line inPins
+
+-- In a cycle of this kind at this address: its strobe, its status, sXTRQ and SIXTN as told.
+pub record InCycle (kind address : ℕ) (asksWord sixteen : Bool) (line : List ℕ) : Type 0 where
+  pub dbin : highOn line 78 ≡ isAmong kind (0x06 ∷ 0x07 ∷ 0x09 ∷ 0x0B ∷ [])
+  pub wr : highOn line 77 ≡ not (isAmong kind (0x08 ∷ 0x0A ∷ 0x0C ∷ []))
+  pub memr : highOn line 47 ≡ isAmong kind (0x06 ∷ 0x07 ∷ 0x09 ∷ [])
+  pub m1 : highOn line 44 ≡ isAmong kind (0x07 ∷ [])
+  pub inp : highOn line 46 ≡ isAmong kind (0x0B ∷ [])
+  pub outp : highOn line 45 ≡ isAmong kind (0x0C ∷ [])
+  pub wo : highOn line 97 ≡ not (isAmong kind (0x08 ∷ 0x0A ∷ 0x0C ∷ []))
+  pub xtrq : highOn line 58 ≡ not asksWord
+  pub sixtn : highOn line 60 ≡ not sixteen
+  pub at : numberOn line addressPins ≡ address
+  pub addressed : allDriven line addressPins
+  pub told : allDriven line statusPins
+
+-- a byte on DO or on DI, the other lines not driven, and a word's halves on both
+pub record OnDO (byte : ℕ) (line : List ℕ) : Type 0 where
+  pub out : numberOn line outPins ≡ byte
+  pub driven : allDriven line outPins
+  pub other : noneDriven line inPins
+
+pub record OnDI (byte : ℕ) (line : List ℕ) : Type 0 where
+  pub into : numberOn line inPins ≡ byte
+  pub driven : allDriven line inPins
+  pub other : noneDriven line outPins
+
+pub record OnBoth (even odd : ℕ) (line : List ℕ) : Type 0 where
+  pub out : numberOn line outPins ≡ even
+  pub into : numberOn line inPins ≡ odd
+  pub outDriven : allDriven line outPins
+  pub inDriven : allDriven line inPins
+
+-- in a read on DI, in a write on DO
+abbrev pub OnItsHalf : ℕ → ℕ → List ℕ → Type 0
+OnItsHalf kind byte line =
+    (isAmong kind (0x06 ∷ 0x07 ∷ 0x09 ∷ 0x0B ∷ []) ≡ true → OnDI byte line) × (isAmong kind (0x08 ∷ 0x0A ∷ 0x0C ∷ []) ≡ true → OnDO byte line)
+
+-- ---- The lines of an accepted event
+
+-- one line, of which this holds, and two
+pub record OneLine (text : List ℕ) (Shows : List ℕ → Type 0) : Type 0 where
+  pub line : List ℕ
+  pub is : text ≡ line ++ newline ∷ []
+  pub digits : isDigits 50 line ≡ true
+  pub shows : Shows line
+
+pub record TwoLines (text : List ℕ) (First Second : List ℕ → Type 0) : Type 0 where
+  pub first : List ℕ
+  pub second : List ℕ
+  pub is : text ≡ (first ++ newline ∷ []) ++ (second ++ newline ∷ [])
+  pub firstDigits : isDigits 50 first ≡ true
+  pub secondDigits : isDigits 50 second ≡ true
+  pub firstShows : First first
+  pub secondShows : Second second
+
+-- what is pictured of an event
+abbrev pub pictures : Machine → Event → List ℕ
+pictures m event = picturesOf event (answerTo m event)
+
+-- memory and ports hold bytes, as they do in code
+pub record Bytes (m : Machine) : Type 0 where
+  pub memory : (k : ℕ) → getD (m .memory) k 0 < 0x100
+  pub ports : (k : ℕ) → getD (m .ports) k 0 < 0x100
+
+abbrev pub ShowsBus : Machine → Event → List ℕ → Type 0
+ShowsBus m event line = BusShown (answerTo m event .phase) (answerTo m event .lines) line
+
+-- An event that is no cycle has one line: the bus that it leaves.
+abbrev pub IdlePictured : Type 0
+IdlePictured =
+    (m : Machine) (event : Event) → refusalIn m event ≡ Refusal.accepted → isCycle (event .kind) ≡ false
+    → OneLine (pictures m event) (λ line. ShowsBus m event line × NoCycle line)
+
+-- A byte cycle has one line, with the byte of the answer on DI or DO.
+abbrev pub BytePictured : Type 0
+BytePictured =
+    (m : Machine) (event : Event) → Bytes m → refusalIn m event ≡ Refusal.accepted → isCycle (event .kind) ≡ true → Kind.isWord (event .kind) ≡ false
+    → OneLine (pictures m event)
+    (λ line.
+    ShowsBus m event line × (InCycle (event .kind) (event .address) false false line × OnItsHalf (event .kind) (answerTo m event .datum) line))
+
+-- A word over a sixteen-bit page has one line: the byte at the even address stands on the DO pins, and the odd one on the DI pins, whichever way it
+-- goes. So they stand in the memory afterwards.
+abbrev pub WordPictured : Type 0
+WordPictured =
+    (m : Machine) (event : Event) → Bytes m → refusalIn m event ≡ Refusal.accepted → Kind.isWord (event .kind) ≡ true
+    → codeThere m event ≡ 2
+    → OneLine (pictures m event)
+    (λ line.
+    ShowsBus m event line
+    × (InCycle (event .kind) (event .address) true true line
+    × OnBoth (getD (after m event .memory) (event .address) 0) (getD (after m event .memory) (event .address + 1) 0) line))
+
+-- A word over an eight-bit page has two: first its even address, with sXTRQ true, and then its odd one, with sXTRQ false, each byte as in a byte
+-- cycle, SIXTN false in both. They are the same two bytes.
+abbrev pub SplitPictured : Type 0
+SplitPictured =
+    (m : Machine) (event : Event) → Bytes m → refusalIn m event ≡ Refusal.accepted → Kind.isWord (event .kind) ≡ true
+    → codeThere m event ≡ 1
+    → TwoLines (pictures m event)
+    (λ line.
+    ShowsBus m event line
+    × (InCycle (event .kind) (event .address) true false line × OnItsHalf (event .kind) (getD (after m event .memory) (event .address) 0) line))
+    (λ line.
+    ShowsBus m event line
+    × (InCycle (event .kind) (event .address + 1) false false line × OnItsHalf (event .kind) (getD (after m event .memory) (event .address + 1) 0) line))
+
+-- A refused event has none.
+abbrev pub RefusedUnpictured : Type 0
+RefusedUnpictured = (m : Machine) (event : Event) → (refusalIn m event ≡ Refusal.accepted → ⊥) → pictures m event ≡ []
+
+-- ---- Read again
+
+-- The first line of an accepted event reads back to the phase, the signals and the priority lines of its answer,
+abbrev pub ReadsBack : Type 0
+ReadsBack =
+    (m : Machine) (event : Event) → refusalIn m event ≡ Refusal.accepted
+    → pictureIn (take 50 (pictures m event)) ≡ seen 0 (answerTo m event .phase) (answerTo m event .signals) (answerTo m event .lines)
+
+-- so machines whose pictures agree agree in these.
+abbrev pub AlikePictured : Type 0
+AlikePictured =
+    (m n : Machine) (event other : Event) → refusalIn m event ≡ Refusal.accepted → refusalIn n other ≡ Refusal.accepted
+    → take 50 (pictures m event) ≡ take 50 (pictures n other)
+    → (answerTo m event .phase ≡ answerTo n other .phase)
+    × ((answerTo m event .signals ≡ answerTo n other .signals) × (answerTo m event .lines ≡ answerTo n other .lines))
+
+-- A line that isn't fifty digits is refused with 0C, and nothing is told of it.
+abbrev pub BadPictureRefused : Type 0
+BadPictureRefused = (line : List ℕ) → isDigits 50 line ≡ false → pictureIn line ≡ seen 0x0C 0 0 0
