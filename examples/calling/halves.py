@@ -78,7 +78,7 @@ def print_pictures(kind, address, answer):
         carried = (f"{name} {number_on(pins, levels):02X}" for name, pins in DATA_PINS.items() if number_on(pins, driven) == 0xFF)
         print(f"  levels {levels}, driven {driven}:", *carried)
     seen = read_picture(lines[0])
-    print(f"  the first read back: phase {seen.phase}, signals {true_signals(seen)}, priority lines {seen.lines}")
+    print(f"  the first line read back: phase {seen.phase}, signals {true_signals(seen)}, priority lines {seen.lines}")
 
 
 def write_and_read(bus, page, address):

@@ -4,3 +4,6 @@ pub mod DigitLaws
 pub mod GatherLaws
 pub mod PinLaws
 pub mod MomentLaws
+pub mod AnswerLaws
+pub mod EventPictures
+pub mod ReadBack

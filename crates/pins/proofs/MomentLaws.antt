@@ -46,7 +46,7 @@ abbrev pub Word : ℕ → Type 0
 Word w = (w ≡ 0) ⊎ ((w ≡ 0x80) ⊎ (w ≡ 0xC0))
 
 -- a signal in the six phases, whatever a word adds
-signal-span : (weight : ℕ) (span : ℕ → Bool)
+pub signal-span : (weight : ℕ) (span : ℕ → Bool)
     → allBelow (λ p. agree (isOn weight (signalsIn p + 0)) (span p) && agree (isOn weight (signalsIn p + 0x80)) (span p)
     && agree (isOn weight (signalsIn p + 0xC0)) (span p)) 6 ≡ true
     → (phase w : ℕ) → phase < 6 → Word w → isOn weight (signalsIn phase + w) ≡ span phase
@@ -134,6 +134,7 @@ module _ (x : Moment) where
     where
       half-below : (q r l : ℕ) → q / 2 ≡ r → q < 2 ^ suc l → r < 2 ^ l
       half-below q r l e h = omega (arith, e, h, pow·suc 2 l)
+
       whole : (q : ℕ) → cond (eqb (q % 2) 1) 1 0 + 2 * (q / 2) ≡ q
       whole q =
           ⊎-elim (λ one. rw one (omega (arith, eqb-true (q % 2) 1 one))) (λ none. rw none (omega (arith, eqb-false (q % 2) 1 none)))
@@ -146,10 +147,61 @@ module _ (x : Moment) where
 
   address-carried : Carries (λ k. x .cyclic && bitAt (x .address) k) 0 addressPins
   unfolding Carries beside pinTable
-  address-carried =
-      (pin 79 refl, (pin 80 refl, (pin 81 refl, (pin 31 refl, (pin 30 refl, (pin 29 refl, (pin 82 refl, (pin 83 refl, (pin 84 refl,
-      (pin 34 refl, (pin 37 refl, (pin 87 refl, (pin 33 refl, (pin 85 refl, (pin 86 refl, (pin 32 refl, (pin 16 refl, (pin 17 refl,
-      (pin 15 refl, (pin 59 refl, (pin 61 refl, (pin 62 refl, (pin 63 refl, (pin 64 refl, tt))))))))))))))))))))))))
+  address-carried = (
+    pin 79 refl,
+    (
+      pin 80 refl,
+      (
+        pin 81 refl,
+        (
+          pin 31 refl,
+          (
+            pin 30 refl,
+            (
+              pin 29 refl,
+              (
+                pin 82 refl,
+                (
+                  pin 83 refl,
+                  (
+                    pin 84 refl,
+                    (
+                      pin 34 refl,
+                      (
+                        pin 37 refl,
+                        (
+                          pin 87 refl,
+                          (
+                            pin 33 refl,
+                            (
+                              pin 85 refl,
+                              (
+                                pin 86 refl,
+                                (
+                                  pin 32 refl,
+                                  (
+                                    pin 16 refl,
+                                    (
+                                      pin 17 refl,
+                                      (pin 15 refl, (pin 59 refl, (pin 61 refl, (pin 62 refl, (pin 63 refl, (pin 64 refl, tt)))))),
+                                    ),
+                                  ),
+                                ),
+                              ),
+                            ),
+                          ),
+                        ),
+                      ),
+                    ),
+                  ),
+                ),
+              ),
+            ),
+          ),
+        ),
+      ),
+    ),
+  )
 
   out-carried : Carries (λ k. x .outward && bitAt (x .dout) k) 0 outPins
   unfolding Carries beside pinTable
@@ -191,7 +243,7 @@ module _ (x : Moment) where
 
   -- ---- The bus in its phase
 
-  outputs : {phase kind w : ℕ} → Fits x phase kind w → (weight : ℕ) (g : ℕ → ℕ → Bool)
+  pub outputs : {phase kind w : ℕ} → Fits x phase kind w → (weight : ℕ) (g : ℕ → ℕ → Bool)
       → allBelow (λ p. allBelow (λ k. (hasStrobe k && not (Phase.hasCycles p)) || agree (isOn weight (controlIn p k)) (g p k)) 16) 6 ≡ true
       → isOn weight (x .control) ≡ g phase kind
   outputs {phase} {kind} fits weight g e =
@@ -259,9 +311,11 @@ module _ (x : Moment) where
       by-kind weight g e =
           ap (isOn weight) (fits .status)
           ∙ agreed (isOn weight (statusOf kind)) (g kind) (all-at (λ k. agree (isOn weight (statusOf k)) (g k)) 16 e kind (fits .kindKnown))
+
       told : (n weight : ℕ) (g : ℕ → Bool) → allBelow (λ k. agree (isOn weight (statusOf k)) (g k)) 16 ≡ true
           → highOn (pictureOf x) n ≡ (x .cyclic && isOn weight (x .status)) → highOn (pictureOf x) n ≡ g kind
       told n weight g e here = here ∙ ap₂ _&&_ cyc (by-kind weight g e)
+
       extra : (weight : ℕ)
           → allBelow (λ p. agree (isOn weight (signalsIn p + 0)) (isOn weight 0) && agree (isOn weight (signalsIn p + 0x80)) (isOn weight 0x80)
           && agree (isOn weight (signalsIn p + 0xC0)) (isOn weight 0xC0)) 6 ≡ true

@@ -57,13 +57,16 @@ module _ (test : Pin → Bool) where
     where
       four : ℕ → ℕ
       four i = 4 * k + i
+
       here : (i i' : ℕ) → i ≡ i' → test (pinAt i) ≡ test (pinAt i')
       here i i' e = ap (λ (n : ℕ). test (pinAt n)) e
+
       bits : (bitAt (fourBits (test (pinAt (four 1))) (test (pinAt (four 2))) (test (pinAt (four 3))) (test (pinAt (four 4)))) 3 ≡ test (pinAt (four 1)))
           × ((bitAt (fourBits (test (pinAt (four 1))) (test (pinAt (four 2))) (test (pinAt (four 3))) (test (pinAt (four 4)))) 2 ≡ test (pinAt (four 2)))
           × ((bitAt (fourBits (test (pinAt (four 1))) (test (pinAt (four 2))) (test (pinAt (four 3))) (test (pinAt (four 4)))) 1 ≡ test (pinAt (four 3)))
           × (bitAt (fourBits (test (pinAt (four 1))) (test (pinAt (four 2))) (test (pinAt (four 3))) (test (pinAt (four 4)))) 0 ≡ test (pinAt (four 4)))))
       bits = four-in-place (test (pinAt (four 1))) (test (pinAt (four 2))) (test (pinAt (four 3))) (test (pinAt (four 4)))
+
       go : (i : ℕ) → i < 4
           → bitAt (fourBits (test (pinAt (four 1))) (test (pinAt (four 2))) (test (pinAt (four 3))) (test (pinAt (four 4)))) (3 - i)
           ≡ test (pinAt (4 * k + 1 + i))

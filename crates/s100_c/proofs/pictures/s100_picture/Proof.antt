@@ -43,8 +43,7 @@ put c =
     let given = start then .args in
     let event = eventOf (given .kind) 0 (given .address) 0 in
     let room = pictured-fits event (at-answer c .answer-in .result) (given .lines .now) (omega (arith, fits then .1)) in
-    let same = at-answer c .answer-in .ensures in
-    (
+    let same = at-answer c .answer-in .ensures in (
       c .put-pictures .ensures .0 ∙ room .0 ∙ ap (λ (a : Answer). length (picturesOf event a)) same,
       c .put-pictures .ensures .1 ∙ room .1 ∙ ap (λ (a : Answer). sets (given .lines .now) 0 (picturesOf event a)) same,
     )
