@@ -3,3 +3,4 @@ pub mod FiveLaws
 pub mod KindLaws
 pub mod SplitLaws
 pub mod LevelLaws
+pub mod StillLaws

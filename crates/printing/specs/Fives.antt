@@ -13,6 +13,9 @@ use Rattle.pins.specs.declared.moments.Moment.{Moment}
 abbrev pub fiveFrom : ℕ → (Pin → Bool) → List ℕ
 fiveFrom k test = listBelow (λ i. pinsDigit test (k + i)) 5
 
+abbrev pub fiveLevels : ℕ → Moment → List ℕ
+fiveLevels k m = fiveFrom k (λ pin. isHigh pin m)
+
 abbrev pub fiveDriven : ℕ → Moment → List ℕ
 fiveDriven k m = fiveFrom k (λ pin. isDriven (pin .line) m)
 

@@ -5,6 +5,7 @@ mod moments;
 mod pictures;
 mod pin_digits;
 mod printing;
+mod still;
 
 pub use pictures::put_pictures;
 pub use printing::put_answer;

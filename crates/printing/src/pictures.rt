@@ -5,10 +5,11 @@ ghost use Prim.Native.Nat.{_+_, _≤_};
 ghost use lib.ListN.{length};
 ghost use lib.Seq.{sets};
 ghost use Rattle.pins.specs.Moments.{evenMoment, oddMoment, cycleMoments};
-ghost use Rattle.pins.specs.Picture.{pictureLine, linesFor, pictureLength, mostPictured, picturesOf, pictured, bytesPictured};
+ghost use Rattle.pins.specs.Picture.{levelDigits, levelsOf, drivenOf, pictureLine, linesFor, pictureLength, mostPictured, picturesOf, pictured, bytesPictured};
 use crate::driven::put_driven;
 use crate::levels::put_levels;
 use crate::moments::*;
+use crate::still::*;
 use bus::numbers::*;
 use events::Answer;
 use judgement::Event;
@@ -89,7 +90,21 @@ fn put_line(m: Moment, out: &mut [u8])
     requires { ⌜ pictureLength ≤ length (now out) ⌝ }
     ensures { λ _. ⌜ now (out .exit) ≡ sets (now (out .entry)) 0 (pictureLine m) ⌝ }
 {
-    put_levels(m, out);
-    put_driven(m, out);
+    put_pins(m, out);
     out[PICTURE_DIGITS] = NEWLINE;
+}
+
+// Most events are no cycles, and their pictures are put with less work.
+fn put_pins(m: Moment, out: &mut [u8])
+    requires { ⌜ pictureLength ≤ length (now out) ⌝ }
+    ensures { λ _. ⌜ now (out .exit) ≡ sets (sets (now (out .entry)) 0 (levelsOf m)) levelDigits (drivenOf m) ⌝ }
+{
+    if m.cyclic | m.outward | m.inward {
+        put_levels(m, out);
+        put_driven(m, out);
+    } else {
+        put_still_1(m, out);
+        put_still_41(m, out);
+        put_still_rest(m, out);
+    }
 }
