@@ -81,9 +81,11 @@ fn take_in(
         sets (now (out .entry)) 0 (takes wanted (length (now (out .entry)))
         (worldOf session (now (memory .entry)) (now (ports .entry))) (take filled (now (text .entry))) .said) ⌝ }
     ensures memory_left { λ _. ⌜ now (memory .exit) ≡
-        takes wanted (length (now (out .entry))) (worldOf session (now (memory .entry)) (now (ports .entry))) (take filled (now (text .entry))) .state .memory ⌝ }
+        takes wanted (length (now (out .entry))) (worldOf session (now (memory .entry)) (now (ports .entry)))
+        (take filled (now (text .entry))) .state .memory ⌝ }
     ensures ports_left { λ _. ⌜ now (ports .exit) ≡
-        takes wanted (length (now (out .entry))) (worldOf session (now (memory .entry)) (now (ports .entry))) (take filled (now (text .entry))) .state .ports ⌝ }
+        takes wanted (length (now (out .entry))) (worldOf session (now (memory .entry)) (now (ports .entry)))
+        (take filled (now (text .entry))) .state .ports ⌝ }
 {
     let taken = take_lines(wanted, session, &text[..filled], out, memory, ports);
     let held = hold(text, taken.used, filled);

@@ -58,7 +58,8 @@ pub fn take_lines(
     ensures taken { λ r. ⌜ r ≡
         linesTaken (takes wanted (length (now (out .entry))) (worldOf start (now (memory .entry)) (now (ports .entry))) (now (text .entry))) ⌝ }
     ensures out_left { λ _. ⌜ now (out .exit) ≡
-        sets (now (out .entry)) 0 (takes wanted (length (now (out .entry))) (worldOf start (now (memory .entry)) (now (ports .entry))) (now (text .entry)) .said) ⌝ }
+        sets (now (out .entry)) 0 (takes wanted (length (now (out .entry)))
+        (worldOf start (now (memory .entry)) (now (ports .entry))) (now (text .entry)) .said) ⌝ }
     ensures memory_left { λ _. ⌜ now (memory .exit) ≡
         takes wanted (length (now (out .entry))) (worldOf start (now (memory .entry)) (now (ports .entry))) (now (text .entry)) .state .memory ⌝ }
     ensures ports_left { λ _. ⌜ now (ports .exit) ≡

@@ -1,14 +1,47 @@
 -- The pictures of specs/Examples, computed by the definitions.
 use mathlib.Core.Path.{refl}
-use Rattle.words.specs.Below.{listBelow}
-use Rattle.words.specs.Among.{isAmong, beside}
+use Rattle.words.specs.Below.{allBelow, listBelow}
+use Rattle.words.specs.Among.{isAmong, everyListed, beside, whoHas}
 use Rattle.phases.specs.Signal.{signalsIn}
 use Rattle.phases.specs.Control.{strobeOf, controlIn}
+use Rattle.text.specs.Digits.{digitsOf}
 use Rattle.pins.specs.Pin.{pinTable}
 use Rattle.pins.specs.Moments.{momentsOf}
 use Rattle.pins.specs.Picture.{levelsOf, drivenOf, linesFor}
-use Rattle.pins.specs.Examples.{IdleBus}
+use Rattle.pins.specs.ReadAgain.{gathered, pictureIn}
+use Rattle.pins.specs.Examples.{Sizes, Standing, Cycling, Telling}
 
-pub idle-bus : IdleBus
-unfolding listBelow isAmong beside signalsIn strobeOf controlIn pinTable momentsOf levelsOf drivenOf linesFor
-idle-bus = record { levels = refl }
+pub sizes : Sizes
+sizes = record { digits = refl }
+
+pub standing : Standing
+unfolding listBelow isAmong beside signalsIn strobeOf controlIn digitsOf pinTable momentsOf levelsOf drivenOf linesFor
+standing = record { idle = refl; arbitration = refl; transferTwo = refl; refused = refl }
+
+pub cycling : Cycling
+unfolding listBelow isAmong beside signalsIn strobeOf controlIn digitsOf pinTable momentsOf levelsOf drivenOf linesFor
+cycling = record {
+  word = refl;
+  wordAgain = refl;
+  split = refl;
+  splitAgain = refl;
+  write = refl;
+  fetch = refl;
+  output = refl;
+  input = refl;
+  owned = refl;
+}
+
+pub telling : Telling
+unfolding allBelow everyListed beside whoHas digitsOf pinTable gathered pictureIn
+telling = record {
+  idle = refl;
+  arbitration = refl;
+  owned = refl;
+  undriven = refl;
+  low = refl;
+  short = refl;
+  long = refl;
+  ended = refl;
+  small = refl;
+}

@@ -35,7 +35,7 @@ use Rattle.events.proofs.EachCycle.{byte-read-does, opcode-fetch-does, byte-wri
 use Rattle.pins.specs.BusLine.{isDriven, isTrue}
 use Rattle.pins.specs.Pin.{Pin, pinAt, isHigh}
 use Rattle.pins.specs.Picture.{fourBits, pinsDigit, levelDigits, levelsOf, drivenOf, pictureOf, linesFor}
-use Rattle.pins.specs.Moments.{idleMoment, byteMoment, wordMoment, evenMoment, oddAddress, withoutRequest, hasStrobe, cycleMoments, momentsOf}
+use Rattle.pins.specs.Moments.{idleMoment, byteMoment, wordMoment, evenMoment, oddOfPair, withoutRequest, hasStrobe, cycleMoments, momentsOf}
 use Rattle.pins.specs.Promises.{FiftyDigits, PinByRule, UndrivenIsLow, OneLine, TwoLines, NoCycle, pictures, ShowsBus, IdlePictured, RefusedUnpictured}
 use Rattle.pins.specs.Promises.{InCycle, OnItsHalf, OnBoth, Bytes, BytePictured, WordPictured, SplitPictured}
 use Rattle.pins.specs.declared.moments.Moment.{Moment}
@@ -242,7 +242,12 @@ module _ (m : Machine) (event : Event) (ok : refusalIn m event ≡ 0) where
   read-moved bytes cycles signals kind does =
       let e = bytes .memory (event .address) in
       let o = bytes .memory (event .address + 1) in
-      rw (does .answers, ap (λ (n : Machine). n .memory) (does .leaves)) (record { counted = refl; even = omega (arith, o); odd = omega (arith, o); small = omega (arith, e, o) })
+      rw (does .answers, ap (λ (n : Machine). n .memory) (does .leaves)) (record {
+        counted = refl;
+        even = omega (arith, o);
+        odd = omega (arith, o);
+        small = omega (arith, e, o);
+      })
 
   write-moved : (cycles signals : ℕ) → event .kind ≡ Kind.wordWrite
       → Moves m event
@@ -316,7 +321,7 @@ split-pictured m event bytes ok word code =
     let cycle = word-cycle m event ok word in
     let lies = word-lies m event ok word in
     let reach = address-small m event ok cycle in
-    let next : oddAddress (event .address) ≡ event .address + 1 = omega (arith, lies .even) in
+    let next : oddOfPair (event .address) ≡ event .address + 1 = omega (arith, lies .even) in
     let eight = eight-word m event ok word code in
     let first-fits = fits-as m event ok 0x80 (inr (inl refl)) eight (event .address) (evenHalf (a .datum)) (evenHalf (a .datum))
     (isWriting (event .kind)) (isReading (event .kind)) in

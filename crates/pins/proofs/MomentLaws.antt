@@ -262,7 +262,9 @@ module _ (x : Moment) where
     priority = priority-on (fits .lines);
     sync = pin 76 refl ∙ outputs fits pSYNC (λ p k. false) refl;
     stval = pin 25 refl ∙ ap not (outputs fits pSTVAL (λ p k. false) refl);
-    mwrt = rw (pin 68 refl, pin 77 refl, driven-is x 45 (omega arith) (omega arith), pin 45 refl) (write-strobe (x .cyclic) (isOn pWR (x .control)) (isOn sOUT (x .status)) quiet);
+    mwrt =
+        rw (pin 68 refl, pin 77 refl, driven-is x 45 (omega arith) (omega arith), pin 45 refl) (
+        write-strobe (x .cyclic) (isOn pWR (x .control)) (isOn sOUT (x .status)) quiet);
     always = each-driven (λ b. b) alwaysPins refl;
     never = each-driven not neverPins refl;
   }

@@ -122,7 +122,8 @@ module _ (x : Moment) where
           cond (isOn SDSB s) SDSB 0
           + (cond (isOn CDSB s) CDSB 0
           + (cond (isOn ADSB s) ADSB 0
-          + (cond (isOn DODSB s) DODSB 0 + (cond b pHLDA 0 + (cond (on && isOn sXTRQ s) sXTRQ 0 + (cond (isOn SIXTN s) SIXTN 0 + (cond (isOn HOLD s) HOLD 0 + 0)))))))
+          + (cond (isOn DODSB s) DODSB 0
+          + (cond b pHLDA 0 + (cond (on && isOn sXTRQ s) sXTRQ 0 + (cond (isOn SIXTN s) SIXTN 0 + (cond (isOn HOLD s) HOLD 0 + 0)))))))
 
   lines-again : x .lines < 16 → linesOn (pictureOf x) ≡ x .lines
   unfolding beside pinTable

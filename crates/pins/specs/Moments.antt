@@ -48,8 +48,8 @@ wordMoment event answer =
 -- ---- Which of them
 
 -- the odd address of the pair that an address lies in
-abbrev pub oddAddress : ℕ → ℕ
-oddAddress address = address / 2 * 2 + 1
+abbrev pub oddOfPair : ℕ → ℕ
+oddOfPair address = address / 2 * 2 + 1
 
 -- the signals without sXTRQ, which weighs more than all the others
 abbrev pub withoutRequest : ℕ → ℕ
@@ -60,7 +60,7 @@ abbrev pub evenMoment : Event → Answer → Moment
 evenMoment event answer = byteMoment event answer (answer .signals) (event .address) (evenHalf (answer .datum))
 
 abbrev pub oddMoment : Event → Answer → Moment
-oddMoment event answer = byteMoment event answer (withoutRequest (answer .signals)) (oddAddress (event .address)) (oddHalf (answer .datum))
+oddMoment event answer = byteMoment event answer (withoutRequest (answer .signals)) (oddOfPair (event .address)) (oddHalf (answer .datum))
 
 abbrev pub isSplit : Event → Answer → Bool
 isSplit event answer = Kind.isWord (event .kind) && eqb (answer .cycles) 2

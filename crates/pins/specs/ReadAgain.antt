@@ -70,12 +70,12 @@ abbrev pub linesOn : List ℕ → ℕ
 linesOn line = gathered priorityOn line pinTable
 
 -- where no phase has these signals
-abbrev pub noPhase : ℕ
-noPhase = 0xFF
+abbrev pub phaseUnknown : ℕ
+phaseUnknown = 0xFF
 
 -- the phase that has these signals, SIXTN and sXTRQ aside, which weigh more than those of a phase
 abbrev pub phaseWith : ℕ → ℕ
-phaseWith signals = whoHas (signals % SIXTN) signalTable noPhase
+phaseWith signals = whoHas (signals % SIXTN) signalTable phaseUnknown
 
 -- ---- A line
 

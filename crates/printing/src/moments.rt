@@ -2,7 +2,7 @@
 ghost use mathlib.Core.Path.{_≡_};
 ghost use Rattle.phases.specs.Control.{isReading, isWriting};
 ghost use Rattle.memory.specs.Halves.{evenHalf, oddHalf};
-ghost use Rattle.pins.specs.Moments.{momentOf, idleMoment, byteMoment, wordMoment, evenMoment, oddMoment, oddAddress, withoutRequest};
+ghost use Rattle.pins.specs.Moments.{momentOf, idleMoment, byteMoment, wordMoment, evenMoment, oddMoment, oddOfPair, withoutRequest};
 use events::Answer;
 use judgement::Event;
 use phases::numbers::*;
@@ -113,7 +113,7 @@ pub fn odd_moment(event: Event, answer: Answer) -> Moment
     ensures { λ r. ⌜ r ≡ oddMoment event answer ⌝ }
 {
     let signals = without_request(answer.signals);
-    let address = odd_address(event.address);
+    let address = odd_of_pair(event.address);
     byte_moment(event, answer, signals, address, odd_half(answer.datum))
 }
 
@@ -129,8 +129,8 @@ pub fn odd_half(datum: u16) -> u8
     (datum % 0x100) as u8
 }
 
-fn odd_address(address: u32) -> u32
-    ensures { λ r. ⌜ r ≡ oddAddress address ⌝ }
+fn odd_of_pair(address: u32) -> u32
+    ensures { λ r. ⌜ r ≡ oddOfPair address ⌝ }
 {
     address / 2 * 2 + 1
 }

@@ -157,7 +157,8 @@ nothing-complete-held wanted w text filled out given room =
     let left : hasRoom wanted (length out) (length (t .said)) ≡ true = rw yes at room in
     rw (in-place .1 .0) (
     held-none (t .rest)
-    (taken-fits World (answering wanted) (says-at-most wanted) (length out) w (take filled text) .1 (leb-true (mostSaid wanted) (length out - length (t .said)) left)))
+    (taken-fits World (answering wanted) (says-at-most wanted) (length out) w (take filled text) .1
+    (leb-true (mostSaid wanted) (length out - length (t .said)) left)))
 
 -- ---- The last line
 
@@ -182,7 +183,8 @@ ended-take text held some within none =
     rw (lt-ltb 0 held some, lt-ltb held (length text) within, ne-eqb (getD text (held - 1) 0) newline last) (
     ap (λ (k : ℕ). take k (set text held newline)) one ∙ take-suc-set text held newline within)
 
-finished-said : (wanted : Wanted) (w : World) (text : List ℕ) (held size : ℕ) → held < length text → hasNewline (take held text) ≡ false → (mostSaid wanted) ≤ size
+finished-said : (wanted : Wanted) (w : World) (text : List ℕ) (held size : ℕ) → held < length text → hasNewline (take held text) ≡ false
+    → mostSaid wanted ≤ size
     → takesLast wanted size w text held .said ≡ answers wanted w (textLines (take held text))
 finished-said wanted w text zero size within none room =
     ap (λ (t : Taken World). t .said) (taken-none (answering wanted) size w [] (unended-stops (answering wanted) size [] no-newline))

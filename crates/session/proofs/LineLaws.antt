@@ -181,6 +181,7 @@ module _ (wanted : Wanted) where
 
   -- the stage that was found
   pub at-stage : (stage found : Stage) (bus : Bus) (m p text out : List ℕ) (lines : TakenLines) (out' m' p' : List ℕ) → stage ≡ found
-      → TakenAs (takesFirst wanted (world found bus m p) text) out lines out' m' p' → TakenAs (takesFirst wanted (world stage bus m p) text) out lines out' m' p'
+      → TakenAs (takesFirst wanted (world found bus m p) text) out lines out' m' p'
+      → TakenAs (takesFirst wanted (world stage bus m p) text) out lines out' m' p'
   at-stage stage found bus m p text out lines out' m' p' e =
       subst (λ (s : Stage). TakenAs (takesFirst wanted (world s bus m p) text) out lines out' m' p') (sym e)

@@ -136,7 +136,8 @@ module _ (wanted : Wanted) where
           let w = world stage bus m p in
           let so : TakenAs (lineOff (answering wanted) w rest) (midOf written (length out - written) out) line part' m' p' = rw has at line-told in
           rw (so .0, so .1 .0, so .1 .1 .0, so .1 .1 .1) (
-          going-on (answering wanted) out₀ (takes wanted (length out₀) w₀ text) out w rest used written (t .going) fits (says-at-most wanted w (firstLine rest)) has)
+          going-on (answering wanted) out₀ (takes wanted (length out₀) w₀ text) out w rest used written (t .going) fits
+          (says-at-most wanted w (firstLine rest)) has)
 
       sound-next : hasNewline rest ≡ true → Sound (world (line .session .stage) (line .session .bus) m' p')
       sound-next has =

@@ -165,7 +165,8 @@ refused-says : (bus : Bus) (m p line : List ℕ) → (setupNumber line ≡ Refus
 unfolding saysBy
 refused-says bus m p line refused = rw (ne-eqb (setupNumber line) Refusal.accepted refused) refl
 
-pub one-said : (wanted : Wanted) (w : World) (line : List ℕ) (lines : List (List ℕ)) → answers wanted w (line ∷ lines) ≡ says wanted w line ++ answers wanted (turns w line) lines
+pub one-said : (wanted : Wanted) (w : World) (line : List ℕ) (lines : List (List ℕ))
+    → answers wanted w (line ∷ lines) ≡ says wanted w line ++ answers wanted (turns w line) lines
 unfolding answersTo
 one-said wanted w line lines = refl
 
@@ -231,7 +232,8 @@ none-said wanted w = refl
 
 running-says : (bus : Bus) (m p line : List ℕ) → length (says Answers (world Running bus m p) line) ≡ answerLength
 unfolding saysBy
-running-says bus m p line = ⊎-elim (λ right. rw right (answer-long (answerTo (machine bus m p) (eventIn line)))) (λ wrong. rw wrong (answer-long (bare Refusal.badLine)))
+running-says bus m p line =
+    ⊎-elim (λ right. rw right (answer-long (answerTo (machine bus m p) (eventIn line)))) (λ wrong. rw wrong (answer-long (bare Refusal.badLine)))
     (true-or-false (isDigits eventDigits line))
 
 running-turn : (bus : Bus) (m p line : List ℕ) (lines : List (List ℕ))

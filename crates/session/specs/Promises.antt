@@ -45,7 +45,7 @@ BadLineAnswers =
     → says Answers (world Running (m .bus) (m .memory) (m .ports)) line ≡ answerLine (bare Refusal.badLine)
 
 -- Where pictures are wanted, an event's line has the pictures of the event, which a refused one doesn't have, and another line has none.
-pub record Pictured (m : Machine) (line : List ℕ) : Type 0 where
+pub record PicturedLine (m : Machine) (line : List ℕ) : Type 0 where
   pub accepted : isDigits eventDigits line ≡ true → refusalIn m (eventIn line) ≡ Refusal.accepted
       → says Pictures (world Running (m .bus) (m .memory) (m .ports)) line ≡ picturesOf (eventIn line) (answerTo m (eventIn line))
   pub refused : isDigits eventDigits line ≡ true → (refusalIn m (eventIn line) ≡ Refusal.accepted → ⊥)
@@ -54,7 +54,7 @@ pub record Pictured (m : Machine) (line : List ℕ) : Type 0 where
   pub setup : says Pictures (world Awaiting (m .bus) (m .memory) (m .ports)) line ≡ []
 
 abbrev pub LinePictured : Type 0
-LinePictured = (m : Machine) (line : List ℕ) → Pictured m line
+LinePictured = (m : Machine) (line : List ℕ) → PicturedLine m line
 
 -- A line that is refused, as bad or as an event, changes neither the bus nor a byte.
 abbrev pub RefusedLineKeeps : Type 0

@@ -9,7 +9,7 @@ use Rattle.words.specs.Below.{allBelow}
 use Rattle.words.specs.Among.{isAmong, whoHas}
 use Rattle.words.proofs.RowLaws.{NoneOf, rest-of-match}
 use Rattle.phases.specs.Signal.{SIXTN, signalTable}
-use Rattle.pins.specs.ReadAgain.{noPhase}
+use Rattle.pins.specs.ReadAgain.{phaseUnknown}
 use Rattle.reading.proofs.picture_reading.phase_with.Statement.{statement}
 use Rattle.reading.proofs.picture_reading.phase_with.Tie as tie
 
@@ -45,7 +45,7 @@ returns-7 : tie.Need-returns-7
 unfolding allBelow isAmong whoHas NoneOf
 returns-7 c =
     let standing : ℕ = c .before .args .signals % SIXTN in
-    sym (eqb-true _ _ (rest-of-match (λ k. eqb (whoHas k signalTable noPhase) noPhase) named SIXTN refl standing (search needs) (c .match .rest)))
+    sym (eqb-true _ _ (rest-of-match (λ k. eqb (whoHas k signalTable phaseUnknown) phaseUnknown) named SIXTN refl standing (search needs) (c .match .rest)))
 
 pub phase-with-spec : {M : Type 1} → statement M
 phase-with-spec = tie.close (tie.spec returns returns-2 returns-3 returns-4 returns-5 returns-6 returns-7)
