@@ -5,3 +5,4 @@ pub mod CallLaws
 pub mod ReadBack
 pub mod CallPromises
 pub mod OwnNumber
+pub mod PicturePromises

@@ -2,8 +2,9 @@
 use Prim.Native.Nat.{ℕ, _<_}
 use mathlib.Core.Path.{_≡_}
 use mathlib.Core.Bool.{true, false}
-use mathlib.Core.List.{List}
+use mathlib.Core.List.{List, [], _∷_}
 use lib.ListN.{length, getD}
+use lib.Seq.{sets}
 use Rattle.bus.specs.Refusal.{wrongLength}
 use Rattle.bus.specs.Refusal as Refusal
 use Rattle.bus.specs.Sense.{makesSense}
@@ -16,6 +17,9 @@ use Rattle.judgement.specs.declared.event.Event.{Event}
 use Rattle.events.specs.Step.{after, answerTo}
 use Rattle.events.specs.declared.answers.Answer.{Answer}
 use Rattle.runs.specs.Run.{afterAll}
+use Rattle.text.specs.Digits.{isDigits}
+use Rattle.pins.specs.Picture.{picturesOf}
+use Rattle.pins.specs.ReadAgain.{seen, pictureIn}
 use Rattle.s100_c.specs.Layout.{stateSize, isState, stateBytes, busIn, answerSize, answerBytes, answerIn}
 use Rattle.s100_c.specs.Calls.{
   setupFits,
@@ -30,6 +34,7 @@ use Rattle.s100_c.specs.Calls.{
   settleLeaves,
   settleCounts,
 }
+use Rattle.s100_c.specs.Pictures.{pictureAnswers, pictureLeaves, readAnswers, readLeaves}
 use Rattle.s100_c.specs.Run.{Placed, bytesAfter, callsTaken}
 
 -- ---- The layout
@@ -127,3 +132,32 @@ StepRefusedKeeps =
 abbrev pub SettleRefusedKeepsBytes : Type 0
 SettleRefusedKeepsBytes =
     (state cards : List ℕ) → AreBytes state → (settleAnswers state cards ≡ Refusal.accepted → ⊥) → settleLeaves state cards ≡ state
+
+-- ---- Pictures
+
+-- With the bytes of an answer, and a place for the most lines, the pictures of the event are written to its front, and counted; its speaker and its
+-- datum are not asked for.
+abbrev pub PictureIsThePicture : Type 0
+PictureIsThePicture =
+    (event : Event) (a : Answer) (place : List ℕ) → length place ≡ 102
+    → (pictureAnswers (event .kind) (event .address) (answerBytes a) place ≡ length (picturesOf event a))
+    × (pictureLeaves (event .kind) (event .address) (answerBytes a) place ≡ sets place 0 (picturesOf event a))
+
+-- With a wrong length nothing is written.
+abbrev pub PictureMisfits : Type 0
+PictureMisfits =
+    (kind address : ℕ) (answer place : List ℕ) → ((length answer ≡ 9) × (length place ≡ 102) → ⊥)
+    → (pictureAnswers kind address answer place ≡ wrongLength) × (pictureLeaves kind address answer place ≡ place)
+
+-- A line that is read leaves phase, signals and priority lines in a place of three bytes,
+abbrev pub PictureReadIsThePicture : Type 0
+PictureReadIsThePicture =
+    (line place : List ℕ) (phase signals lines : ℕ) → length place ≡ 3 → pictureIn line ≡ seen 0 phase signals lines
+    → (readAnswers line place ≡ 0) × (readLeaves line place ≡ phase ∷ signals ∷ lines ∷ [])
+
+-- a refused one leaves the place as it was, and so does a place of another length.
+abbrev pub PictureReadKeeps : Type 0
+PictureReadKeeps =
+    (line place : List ℕ)
+    → (isDigits 50 line ≡ false → length place ≡ 3 → (readAnswers line place ≡ 0x0C) × (readLeaves line place ≡ place))
+    × ((length place ≡ 3 → ⊥) → (readAnswers line place ≡ wrongLength) × (readLeaves line place ≡ place))
