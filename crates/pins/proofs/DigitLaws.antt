@@ -11,12 +11,11 @@ use borrow.Author.Tests.{ne-eqb, le-leb}
 use Rattle.words.proofs.BelowLaws.{list-below-long}
 use Rattle.words.proofs.PartLaws.{sets-append}
 use Rattle.phases.specs.Kind as Kind
-use Rattle.memory.specs.Halves.{oddHalf}
 use Rattle.bus.specs.Refusal.{accepted}
 use Rattle.judgement.specs.declared.event.Event.{Event}
 use Rattle.events.specs.declared.answers.Answer.{Answer}
 use Rattle.text.specs.Newlines.{newline}
-use Rattle.pins.specs.Moments.{idleMoment, byteMoment, wordMoment, evenMoment, oddMoment, isSplit, hasStrobe, momentsOf}
+use Rattle.pins.specs.Moments.{isSplit, hasStrobe, momentsOf}
 use Rattle.pins.specs.Picture.{fourBits, levelDigits, pictureDigits, levelsOf, drivenOf, pictureOf, pictureLine, pictureLength, mostPictured, picturesOf, linesFor, pictured, bytesPictured}
 use Rattle.pins.specs.declared.moments.Moment.{Moment}
 
@@ -101,28 +100,34 @@ two-long m n = ap length (two-lines m n) ∙ omega (arith, length-append (pictur
 
 -- ---- The lines of an event have room
 
+-- some moments have room for their lines
+record Roomy (moments : List Moment) : Type 0 where
+  fits : length (linesFor moments) ≤ mostPictured
+
+either-roomy : (b : Bool) {l k : List Moment} → Roomy l → Roomy k → Roomy (cond b l k)
+either-roomy true these those = these
+either-roomy false these those = those
+
+none-roomy : Roomy []
+none-roomy = record { fits = omega (arith, no-lines) }
+
+one-roomy : (m : Moment) → Roomy (m ∷ [])
+one-roomy m = record { fits = omega (arith, ap length (one-line m), line-long m) }
+
+two-roomy : (m n : Moment) → Roomy (m ∷ n ∷ [])
+two-roomy m n = record { fits = omega (arith, two-long m n) }
+
 pub pictures-fit : (event : Event) (answer : Answer) → length (picturesOf event answer) ≤ mostPictured
 unfolding momentsOf
-pictures-fit event answer =
-    go (eqb (answer .refusal) accepted) (hasStrobe (event .kind)) (isSplit event answer) (Kind.isWord (event .kind))
+pictures-fit event answer = all .fits
   where
-    one : (m : Moment) → length (linesFor (m ∷ [])) ≤ mostPictured
-    one m = omega (arith, ap length (one-line m), line-long m)
-
-    none : length (linesFor []) ≤ mostPictured
-    none = omega (arith, no-lines)
-
-    go : (taken strobe split word : Bool)
-        → length (linesFor (cond taken (cond strobe (
-        cond split (evenMoment event answer ∷ oddMoment event answer ∷ [])
-        (cond word (wordMoment event answer ∷ []) (byteMoment event answer (answer .signals) (event .address) (oddHalf (answer .datum)) ∷ [])))
-        (idleMoment event answer ∷ [])) []))
-        ≤ mostPictured
-    go false strobe split word = none
-    go true false split word = one (idleMoment event answer)
-    go true true true word = omega (arith, two-long (evenMoment event answer) (oddMoment event answer))
-    go true true false true = one (wordMoment event answer)
-    go true true false false = one (byteMoment event answer (answer .signals) (event .address) (oddHalf (answer .datum)))
+    all : Roomy (momentsOf event answer)
+    all =
+        either-roomy (eqb (answer .refusal) accepted)
+        (either-roomy (hasStrobe (event .kind))
+        (either-roomy (isSplit event answer) (two-roomy _ _) (either-roomy (Kind.isWord (event .kind)) (one-roomy _) (one-roomy _)))
+        (one-roomy _))
+        none-roomy
 
 pub no-picture : (event : Event) (answer : Answer) → (answer .refusal ≡ accepted → ⊥) → picturesOf event answer ≡ []
 unfolding momentsOf linesFor
