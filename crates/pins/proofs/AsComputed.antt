@@ -9,10 +9,14 @@ use Rattle.pins.specs.Pin.{pinTable}
 use Rattle.pins.specs.Moments.{momentsOf}
 use Rattle.pins.specs.Picture.{levelsOf, drivenOf, linesFor}
 use Rattle.pins.specs.ReadAgain.{gathered, pictureIn}
-use Rattle.pins.specs.Examples.{Sizes, Standing, Cycling, Telling}
+use Rattle.pins.specs.Examples.{Sizes, Stars, Standing, Cycling, Telling}
 
 pub sizes : Sizes
 sizes = record { digits = refl }
+
+pub stars : Stars
+unfolding listBelow beside pinTable
+stars = record { starred = refl }
 
 pub standing : Standing
 unfolding listBelow isAmong beside signalsIn strobeOf controlIn digitsOf pinTable momentsOf levelsOf drivenOf linesFor

@@ -1,16 +1,26 @@
 -- Pictures written out, digit by digit: from 003, Appendix B and 02, CR 1, worked by hand.
-use Prim.Native.Nat.{ℕ}
+use Prim.Native.Nat.{ℕ, _+_}
 use mathlib.Core.Path.{_≡_}
+use mathlib.Core.Bool.{true, false}
 use mathlib.Core.List.{List, [], _∷_, _++_}
 use lib.ListN.{replicate, take}
+use Rattle.words.specs.Below.{listBelow}
 use Rattle.judgement.specs.Table.{eventOf}
 use Rattle.events.specs.declared.answers.Answer.{Answer}
 use Rattle.text.specs.Digits.{digitsOf}
+use Rattle.pins.specs.Pin.{pinAt}
 use Rattle.pins.specs.Picture.{levelDigits, pictureDigits, pictureLength, mostPictured, picturesOf}
 use Rattle.pins.specs.ReadAgain.{seen, pictureIn}
 
 pub record Sizes : Type 0 where
   pub digits : levelDigits ∷ pictureDigits ∷ pictureLength ∷ mostPictured ∷ [] ≡ 25 ∷ 50 ∷ 51 ∷ 102 ∷ []
+
+-- the pins whose names 003 stars, those of lines that the model lacks among them
+pub record Stars : Type 0 where
+  pub starred : listBelow (λ k. pinAt (k + 1) .isStarred) 100
+      ≡ replicate 3 false ++ replicate 11 true ++ replicate 3 false ++ replicate 2 true ++ replicate 2 false ++ replicate 2 true ++ false ∷ true
+      ∷ replicate 28 false ++ replicate 5 true ++ false ∷ true ∷ replicate 6 false ++ true ∷ replicate 5 false ++ replicate 3 true ++ false ∷ true
+      ∷ replicate 19 false ++ replicate 3 true ++ false ∷ []
 
 -- digits written by two numbers, of levels and of what is driven, each in a high and a low part that the checker reads quickly, and a newline
 abbrev pub lineOf : ℕ → ℕ → ℕ → ℕ → List ℕ
