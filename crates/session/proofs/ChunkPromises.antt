@@ -38,10 +38,10 @@ use Rattle.session.specs.Promises.{
 }
 use Rattle.session.specs.declared.state.Stage.the-variants.{Awaiting, Running}
 use Rattle.session.specs.declared.state.Wanted.{Wanted}
-use Rattle.session.specs.declared.state.Wanted.the-variants.{Answers, Pictures}
+use Rattle.session.specs.declared.state.Wanted.the-variants.{Answers}
 use Rattle.session.proofs.CallLaws.{held-within}
 use Rattle.session.proofs.SoundLaws.{Sound, sound-turns, sound-fresh}
-use Rattle.session.proofs.LoopLaws.{event-answered, says-at-most}
+use Rattle.session.proofs.LoopLaws.{event-answered, says-at-most, some-said}
 use Rattle.session.proofs.FeedLaws.{call-accepted}
 use Rattle.session.proofs.RunPromises.{cut-changes-nothing, one-said, none-said}
 
@@ -144,10 +144,6 @@ room-asked wanted size written = (
   λ room. let left = leb-true (mostSaid wanted) (size - written) room in omega (arith, left, some-said wanted),
   λ left. le-leb (mostSaid wanted) (size - written) (omega (arith, left)),
 )
-  where
-    some-said : (wanted' : Wanted) → 0 < mostSaid wanted'
-    some-said Answers = omega arith
-    some-said Pictures = omega arith
 
 pub nothing-complete-held : NothingCompleteHeld
 nothing-complete-held wanted w text filled out given room =

@@ -32,6 +32,11 @@ use Rattle.session.specs.declared.calls.TakenLines.{TakenLines}
 use Rattle.session.proofs.LineLaws.{TakenAs}
 use Rattle.session.proofs.SoundLaws.{Sound, sound-turns}
 
+-- whatever is wanted, a line may take some room
+pub some-said : (wanted : Wanted) → 0 < mostSaid wanted
+some-said Answers = omega arith
+some-said Pictures = omega arith
+
 -- an event's line has an answer or, at most, two pictures
 event-at-most : (wanted : Wanted) (m : Machine) (line : List ℕ) → length (eventSaid wanted m line) ≤ mostSaid wanted
 event-at-most wanted m line = go wanted (isDigits eventDigits line) refl
