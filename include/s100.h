@@ -28,8 +28,8 @@ extern "C" {
 #define S100_ANSWER_SIZE 9
 #define S100_MEMORY_SIZE 65536
 #define S100_PORTS_SIZE 256
-#define S100_PICTURE_DIGITS 50 /* of a line of a picture, which a newline ends */
-#define S100_PICTURES_SIZE 102 /* two lines with their newlines, the most that an event has */
+#define S100_PICTURE_DIGITS 50 /* of a picture, which a newline ends */
+#define S100_PICTURES_SIZE 102 /* two pictures with their newlines, the most that an event has */
 #define S100_SEEN_SIZE 3
 
 /* ---- The bytes of a state. A field of two bytes has its high byte first; in a set of cards, card n is the bit of weight 1 << n. Any 38 bytes
@@ -160,17 +160,18 @@ uint8_t s100_step(uint8_t *state, size_t state_length, uint8_t kind, uint8_t spe
  * answer is S100_WRONG_LENGTH. */
 uint8_t s100_settle(uint8_t *state, size_t state_length, const uint8_t *cards, size_t cards_length, size_t *looks);
 
-/* Writes the picture of an accepted event's pins as text: a line, or two for a word that took two cycles, to the front of `lines`, and
- * returns how many bytes that was: 51 or 102, and 0 behind a refused event, which has no picture. Each line is 25 hexadecimal digits of levels,
- * pin 1 in the top bit of the first, 25 digits of which pins are driven, and a newline. The event's kind and address and the answer's bytes as
- * s100_step wrote them say everything. Whatever they are, they have a picture: kinds 06 to 0C are cycles; a word is split if its answer counts
- * two cycles, and else in one piece; pHLDA and the strobes go by phase and kind, with no strobe but in phases 0, 1 and 4; what else the bus
- * has goes by the answer's signals, status, priority lines and datum, a byte's datum by its low half. The second line of a split word is at
- * the odd address of the pair. With an answer of a wrong length, or a place other than S100_PICTURES_SIZE, nothing is written, and
- * S100_WRONG_LENGTH is returned. */
+/* Writes the pictures of an accepted event's pins, a line each: one, or two for a word that took two cycles. They go to the front of `lines`,
+ * and how many bytes that was is returned: 51 or 102, and 0 behind a refused event, which has no picture. A picture is 25 hexadecimal digits
+ * of levels, pin 1 in the top bit of the first, and 25 digits of which pins are driven; a newline ends it. The event's kind and address and
+ * the answer's bytes as s100_step wrote them say everything. Behind any answer that isn't refused, whatever its other bytes, there is a
+ * picture: kinds 06 to 0C are cycles; a word is split if its answer counts two cycles, and else in one piece; pHLDA and the strobes go by
+ * phase and kind, with no strobe but in phases 0, 1 and 4; what else the bus has goes by the answer's signals, status, priority lines and
+ * datum, a byte's datum by its low half. Of the address the low 24 bits count, and of the priority lines the low four. The second picture of
+ * a split word is at the odd address of the pair, with sXTRQ false. With an answer of a wrong length, or a place other than
+ * S100_PICTURES_SIZE, nothing is written, and S100_WRONG_LENGTH is returned. */
 uint8_t s100_picture(uint8_t kind, uint32_t address, const uint8_t *answer, size_t answer_length, uint8_t *lines, size_t lines_length);
 
-/* Reads a line of a picture, without its newline: phase, signals and priority lines, by the pins that are driven. Any 50 digits are read; any
+/* Reads a picture, without its newline: phase, signals and priority lines, by the pins that are driven. Any 50 digits are read; any
  * other line is refused as S100_REFUSED_BAD_LINE, and then, as with a place of a wrong length, which is S100_WRONG_LENGTH, nothing is
  * written. */
 uint8_t s100_read_picture(const uint8_t *line, size_t line_length, uint8_t *seen, size_t seen_length);

@@ -19,7 +19,7 @@ use session::Session;
 use session::Wanted;
 use text::NEWLINE;
 
-// Takes the lines that have ended in the filled part of the text, as many as have room for their answers, and brings the rest to the front.
+// Takes the lines that have ended in the filled part of the text, as many as `out` has room for, and brings the rest to the front.
 // What is read next goes behind it.
 pub fn feed(
     wanted: Wanted,

@@ -145,9 +145,9 @@ module _ (m : Machine) (event : Event) (ok : refusalIn m event ≡ 0) where
 
   -- so a moment of it fits, with what a word adds
   pub fits-as : (w : ℕ) → Word w → wordSignals (event .kind) (slaveAt (m .bus .pages) (event .address)) ≡ w
-      → (address out into : ℕ) (outward inward : Bool)
-      → Fits (momentOf event (answerTo m event) (answerTo m event .signals) address out into outward inward) (answerTo m event .phase) (event .kind) w
-  fits-as w word is address out into outward inward = record {
+      → (address out into : ℕ) (doutDriven dinDriven : Bool)
+      → Fits (momentOf event (answerTo m event) (answerTo m event .signals) address out into doutDriven dinDriven) (answerTo m event .phase) (event .kind) w
+  fits-as w word is address out into doutDriven dinDriven = record {
     phaseKnown = phase-known;
     kindKnown = kind-known;
     turn = turn;
@@ -159,10 +159,10 @@ module _ (m : Machine) (event : Event) (ok : refusalIn m event ≡ 0) where
   }
 
   -- and one of a split word's second cycle, without sXTRQ
-  pub quiet-fits : wordSignals (event .kind) (slaveAt (m .bus .pages) (event .address)) ≡ 0x80 → (address byte : ℕ) (outward inward : Bool)
-      → Fits (momentOf event (answerTo m event) (withoutRequest (answerTo m event .signals)) address byte byte outward inward)
+  pub quiet-fits : wordSignals (event .kind) (slaveAt (m .bus .pages) (event .address)) ≡ 0x80 → (address byte : ℕ) (doutDriven dinDriven : Bool)
+      → Fits (momentOf event (answerTo m event) (withoutRequest (answerTo m event .signals)) address byte byte doutDriven dinDriven)
       (answerTo m event .phase) (event .kind) 0
-  quiet-fits is address byte outward inward = record {
+  quiet-fits is address byte doutDriven dinDriven = record {
     phaseKnown = phase-known;
     kindKnown = kind-known;
     turn = turn;

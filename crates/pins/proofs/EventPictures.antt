@@ -36,12 +36,13 @@ use Rattle.pins.specs.BusLine.{isDriven, isTrue}
 use Rattle.pins.specs.Pin.{Pin, pinAt, isHigh}
 use Rattle.pins.specs.Picture.{fourBits, pinsDigit, levelDigits, levelsOf, drivenOf, pictureOf, linesFor}
 use Rattle.pins.specs.Moments.{idleMoment, byteMoment, wordMoment, evenMoment, oddOfPair, withoutRequest, hasStrobe, cycleMoments, momentsOf}
-use Rattle.pins.specs.Promises.{FiftyDigits, PinByRule, UndrivenIsLow, OneLine, TwoLines, NoCycle, pictures, ShowsBus, IdlePictured, RefusedUnpictured}
-use Rattle.pins.specs.Promises.{InCycle, OnItsHalf, OnBoth, Bytes, BytePictured, WordPictured, SplitPictured}
+use Rattle.pins.specs.Promises.{FiftyDigits, PinByRule, UndrivenIsLow, AddressOnPins, DisablingOnPins, OneLine, TwoLines, NoCycle, pictures, ShowsBus}
+use Rattle.pins.specs.Promises.{IdlePictured, RefusedUnpictured}
+use Rattle.pins.specs.Promises.{InCycle, OnItsPins, OnBoth, Bytes, BytePictured, WordPictured, SplitPictured}
 use Rattle.pins.specs.declared.moments.Moment.{Moment}
 use Rattle.pins.proofs.DigitLaws.{four-bits-small, levels-long, driven-long, picture-long, line-long, one-line, two-lines, no-picture}
-use Rattle.pins.proofs.PinLaws.{high-is, driven-is}
-use Rattle.pins.proofs.MomentLaws.{Fits, bus-shown, no-cycle, in-cycle, on-do, on-di, on-both}
+use Rattle.pins.proofs.PinLaws.{high-is, driven-is, low-undriven}
+use Rattle.pins.proofs.MomentLaws.{Fits, address-on, disabling-on, bus-shown, no-cycle, in-cycle, on-do, on-di, on-both}
 use Rattle.pins.proofs.AnswerLaws.{quiet-fits, word-strobe, word-cycles, byte-cycles, one-way, WordLies, word-lies, strobe-cycle, number, kind-known, fits-as, no-word, eight-word, sixteen-word, no-status, address-small}
 
 -- ---- Every line
@@ -82,10 +83,13 @@ pub pin-by-rule : PinByRule
 pin-by-rule m n low high = (driven-is m n low high, high-is m n low high)
 
 pub undriven-is-low : UndrivenIsLow
-undriven-is-low m n low high none = high-is m n low high ∙ ap (λ (b : Bool). b && level) (sym (driven-is m n low high) ∙ none)
-  where
-    level : Bool
-    level = cond (pinAt n .isStarred) (not (isTrue (pinAt n .line) m)) (isTrue (pinAt n .line) m)
+undriven-is-low = low-undriven
+
+pub address-on-pins : AddressOnPins
+address-on-pins = address-on
+
+pub disabling-on-pins : DisablingOnPins
+disabling-on-pins = disabling-on
 
 -- ---- The lines of an event
 
@@ -158,10 +162,10 @@ other-way true true e is = absurd (true≢false e)
 other-way true false e is = absurd (false≢true is)
 other-way false c e is = refl
 
--- a byte cycle's moment carries its byte on its half
+-- a byte cycle's moment carries its byte on its pins
 module _ (event : Event) (answer : Answer) (signals address byte : ℕ) (known : event .kind < 16) (small : byte < 2 ^ 8) where
-  on-its-half : OnItsHalf (event .kind) byte (pictureOf (byteMoment event answer signals address byte))
-  on-its-half = (
+  on-its-pins : OnItsPins (event .kind) byte (pictureOf (byteMoment event answer signals address byte))
+  on-its-pins = (
     λ reads. on-di (byteMoment event answer signals address byte) (not-both (isReading (event .kind)) (isWriting (event .kind)) apart reads) reads small,
     λ writes. on-do (byteMoment event answer signals address byte) writes (other-way (isReading (event .kind)) (isWriting (event .kind)) apart writes) small,
   )
@@ -178,14 +182,14 @@ module _ (m : Machine) (event : Event) (ok : refusalIn m event ≡ 0) where
       → Fits (byteMoment event (answerTo m event) signals address byte) (answerTo m event .phase) (event .kind) w → address < 2 ^ 24 → byte < 2 ^ 8
       → ShowsBus m event (pictureOf (byteMoment event (answerTo m event) signals address byte))
       × (InCycle (event .kind) address (isOn sXTRQ w) (isOn SIXTN w) (pictureOf (byteMoment event (answerTo m event) signals address byte))
-      × OnItsHalf (event .kind) byte (pictureOf (byteMoment event (answerTo m event) signals address byte)))
+      × OnItsPins (event .kind) byte (pictureOf (byteMoment event (answerTo m event) signals address byte)))
   byte-shown cycle w signals address byte fits reach small =
       let x = byteMoment event (answerTo m event) signals address byte in
       let on = on-cycle cycle in (
         bus-shown x (answerTo m event .phase) (event .kind) w fits (λ off. absurd (true≢false (sym on ∙ off))),
         (
           in-cycle x (answerTo m event .phase) (event .kind) w fits (strobe m event ok true cycle) on reach,
-          on-its-half event (answerTo m event) signals address byte (kind-known m event ok) small,
+          on-its-pins event (answerTo m event) signals address byte (kind-known m event ok) small,
         ),
       )
 
@@ -333,11 +337,11 @@ split-pictured m event bytes ok word code =
     (cycle-moments m event ok cycle
     ∙ rw (word, ap (λ (n : ℕ). eqb n 2) (moved .counted))
     (ap (λ (n : ℕ). linesFor (evenMoment event a ∷ byteMoment event a (withoutRequest (a .signals)) n (oddHalf (a .datum)) ∷ [])) next))
-    (first .0, (first .1 .0, subst (λ (e : ℕ). OnItsHalf (event .kind) e (pictureOf (evenMoment event a))) (moved .even) (first .1 .1))) (
+    (first .0, (first .1 .0, subst (λ (e : ℕ). OnItsPins (event .kind) e (pictureOf (evenMoment event a))) (moved .even) (first .1 .1))) (
       second .0,
       (
         second .1 .0,
-        subst (λ (o : ℕ). OnItsHalf (event .kind) o (pictureOf (byteMoment event a (withoutRequest (a .signals)) (event .address + 1)
+        subst (λ (o : ℕ). OnItsPins (event .kind) o (pictureOf (byteMoment event a (withoutRequest (a .signals)) (event .address + 1)
             (oddHalf (a .datum))))) (moved .odd) (second .1 .1),
       ),
     )

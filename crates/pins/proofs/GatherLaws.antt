@@ -10,7 +10,7 @@ use Rattle.words.proofs.TestLaws.{cond-same}
 use Rattle.phases.specs.Signal.{HOLD, pHLDA, ADSB, SDSB, DODSB, CDSB, SIXTN, sXTRQ}
 use Rattle.pins.specs.BusLine.{BusLine}
 use Rattle.pins.specs.Pin.{Pin, pinTable}
-use Rattle.pins.specs.ReadAgain.{trueOn, signalOn, priorityOn, gathered, signalsOn, linesOn}
+use Rattle.pins.specs.ReadAgain.{trueOn, signalOn, priorityOn, gathered, signalsOn, priorityLinesOn}
 
 -- the rows whose lines have a weight
 unfoldable pub weighing : (BusLine → ℕ) → List (ℕ × Pin) → List (ℕ × Pin)
@@ -45,7 +45,7 @@ pub signals-in-order : (line : List ℕ) → signalsOn line
 unfolding gathered weighing pinTable
 signals-in-order line = gathered-weighing signalOn line pinTable
 
-pub lines-in-order : (line : List ℕ) → linesOn line
+pub lines-in-order : (line : List ℕ) → priorityLinesOn line
     ≡ cond (trueOn line 14 true) 8 0 + (cond (trueOn line 55 true) 1 0 + (cond (trueOn line 56 true) 2 0 + (cond (trueOn line 57 true) 4 0 + 0)))
 unfolding gathered weighing pinTable
 lines-in-order line = gathered-weighing priorityOn line pinTable

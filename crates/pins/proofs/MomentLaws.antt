@@ -27,7 +27,7 @@ use Rattle.pins.specs.ReadAgain.{highOn, drivenOn}
 use Rattle.pins.specs.Promises.{addressPins, outPins, inPins, priorityPins, statusPins, alwaysPins, neverPins, numberOn, allDriven, noneDriven}
 use Rattle.pins.specs.Promises.{BusShown, NoCycle, InCycle, OnDO, OnDI, OnBoth}
 use Rattle.pins.specs.declared.moments.Moment.{Moment}
-use Rattle.pins.proofs.PinLaws.{high-is, driven-is}
+use Rattle.pins.proofs.PinLaws.{high-is, driven-is, low-undriven}
 
 -- ---- Computed over phases and kinds
 
@@ -203,11 +203,11 @@ module _ (x : Moment) where
     ),
   )
 
-  out-carried : Carries (λ k. x .outward && bitAt (x .dout) k) 0 outPins
+  out-carried : Carries (λ k. x .doutDriven && bitAt (x .dout) k) 0 outPins
   unfolding Carries beside pinTable
   out-carried = (pin 36 refl, (pin 35 refl, (pin 88 refl, (pin 89 refl, (pin 38 refl, (pin 39 refl, (pin 40 refl, (pin 90 refl, tt))))))))
 
-  in-carried : Carries (λ k. x .inward && bitAt (x .din) k) 0 inPins
+  in-carried : Carries (λ k. x .dinDriven && bitAt (x .din) k) 0 inPins
   unfolding Carries beside pinTable
   in-carried = (pin 95 refl, (pin 94 refl, (pin 41 refl, (pin 42 refl, (pin 91 refl, (pin 92 refl, (pin 93 refl, (pin 43 refl, tt))))))))
 
@@ -218,11 +218,11 @@ module _ (x : Moment) where
   pub address-on : x .cyclic ≡ true → x .address < 2 ^ 24 → numberOn (pictureOf x) addressPins ≡ x .address
   address-on on = number-is _ (x .address) (shown-bits (x .cyclic) (x .address) on) addressPins address-carried
 
-  pub out-on : x .outward ≡ true → x .dout < 2 ^ 8 → numberOn (pictureOf x) outPins ≡ x .dout
-  out-on on = number-is _ (x .dout) (shown-bits (x .outward) (x .dout) on) outPins out-carried
+  pub out-on : x .doutDriven ≡ true → x .dout < 2 ^ 8 → numberOn (pictureOf x) outPins ≡ x .dout
+  out-on on = number-is _ (x .dout) (shown-bits (x .doutDriven) (x .dout) on) outPins out-carried
 
-  pub in-on : x .inward ≡ true → x .din < 2 ^ 8 → numberOn (pictureOf x) inPins ≡ x .din
-  in-on on = number-is _ (x .din) (shown-bits (x .inward) (x .din) on) inPins in-carried
+  pub in-on : x .dinDriven ≡ true → x .din < 2 ^ 8 → numberOn (pictureOf x) inPins ≡ x .din
+  in-on on = number-is _ (x .din) (shown-bits (x .dinDriven) (x .din) on) inPins in-carried
 
   -- the priority lines are low when true
   priority-low : (lines : ℕ) → lines < 16
@@ -240,6 +240,13 @@ module _ (x : Moment) where
   priority-on : x .lines < 16 → numberOn (pictureOf x) priorityPins ≡ 15 - x .lines
   unfolding beside pinTable
   priority-on small = rw (pin 55 refl, pin 56 refl, pin 57 refl, pin 14 refl) (priority-low (x .lines) small)
+
+  -- each disable line is low when true
+  pub disabling-on : (highOn (pictureOf x) 22 ≡ not (isOn ADSB (x .signals)))
+      × ((highOn (pictureOf x) 18 ≡ not (isOn SDSB (x .signals)))
+      × ((highOn (pictureOf x) 23 ≡ not (isOn DODSB (x .signals))) × (highOn (pictureOf x) 19 ≡ not (isOn CDSB (x .signals)))))
+  unfolding beside pinTable
+  disabling-on = (pin 22 refl, (pin 18 refl, (pin 23 refl, pin 19 refl)))
 
   -- ---- The bus in its phase
 
@@ -267,6 +274,7 @@ module _ (x : Moment) where
         write-strobe (x .cyclic) (isOn pWR (x .control)) (isOn sOUT (x .status)) quiet);
     always = each-driven (λ b. b) alwaysPins refl;
     never = each-driven not neverPins refl;
+    undriven = low-undriven x;
   }
     where
       low : (weight : ℕ) (span : ℕ → Bool)
@@ -278,7 +286,7 @@ module _ (x : Moment) where
 
   -- ---- With a cycle on, and without
 
-  pub no-cycle : (phase kind : ℕ) → Fits x phase kind 0 → hasStrobe kind ≡ false → x .cyclic ≡ false → x .outward ≡ false → x .inward ≡ false
+  pub no-cycle : (phase kind : ℕ) → Fits x phase kind 0 → hasStrobe kind ≡ false → x .cyclic ≡ false → x .doutDriven ≡ false → x .dinDriven ≡ false
       → NoCycle (pictureOf x)
   unfolding allBelow everyListed isAmong beside pinTable signalsIn strobeOf controlIn
   no-cycle phase kind fits still cyc out into = record {
@@ -305,8 +313,8 @@ module _ (x : Moment) where
     xtrq = pin 58 refl ∙ rw cyc (ap not (extra sXTRQ refl));
     sixtn = pin 60 refl ∙ ap not (extra SIXTN refl);
     at = address-on cyc small;
-    addressed = each-driven (λ b. b) addressPins refl ∙ rw cyc refl;
-    told = each-driven (λ b. b) statusPins refl ∙ rw cyc refl;
+    addressDriven = each-driven (λ b. b) addressPins refl ∙ rw cyc refl;
+    statusDriven = each-driven (λ b. b) statusPins refl ∙ rw cyc refl;
   }
     where
       by-kind : (weight : ℕ) (g : ℕ → Bool) → allBelow (λ k. agree (isOn weight (statusOf k)) (g k)) 16 ≡ true → isOn weight (x .status) ≡ g kind
@@ -324,7 +332,7 @@ module _ (x : Moment) where
           → isOn weight (x .signals) ≡ isOn weight w
       extra weight e = ap (isOn weight) (fits .signals) ∙ word-signal weight e phase w (fits .phaseKnown) (fits .word)
 
-  pub on-do : x .outward ≡ true → x .inward ≡ false → x .dout < 2 ^ 8 → OnDO (x .dout) (pictureOf x)
+  pub on-do : x .doutDriven ≡ true → x .dinDriven ≡ false → x .dout < 2 ^ 8 → OnDO (x .dout) (pictureOf x)
   unfolding allBelow everyListed beside pinTable
   on-do out into small = record {
     out = out-on out small;
@@ -332,7 +340,7 @@ module _ (x : Moment) where
     other = each-driven not inPins refl ∙ rw into refl;
   }
 
-  pub on-di : x .outward ≡ false → x .inward ≡ true → x .din < 2 ^ 8 → OnDI (x .din) (pictureOf x)
+  pub on-di : x .doutDriven ≡ false → x .dinDriven ≡ true → x .din < 2 ^ 8 → OnDI (x .din) (pictureOf x)
   unfolding allBelow everyListed beside pinTable
   on-di out into small = record {
     into = in-on into small;
@@ -340,7 +348,7 @@ module _ (x : Moment) where
     other = each-driven not outPins refl ∙ rw out refl;
   }
 
-  pub on-both : x .outward ≡ true → x .inward ≡ true → x .dout < 2 ^ 8 → x .din < 2 ^ 8 → OnBoth (x .dout) (x .din) (pictureOf x)
+  pub on-both : x .doutDriven ≡ true → x .dinDriven ≡ true → x .dout < 2 ^ 8 → x .din < 2 ^ 8 → OnBoth (x .dout) (x .din) (pictureOf x)
   unfolding allBelow everyListed beside pinTable
   on-both out into even odd = record {
     out = out-on out even;

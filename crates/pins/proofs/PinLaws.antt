@@ -1,6 +1,6 @@
 -- A pin of a line, found by its number, is driven and high as the table's rule for it says.
 use mathlib.Core.Path.{_≡_, refl, sym, ap, _∙_}
-use mathlib.Core.Bool.{Bool, true, false}
+use mathlib.Core.Bool.{Bool, true, false, cond, not, _&&_}
 use mathlib.Core.List.{List, _++_}
 use Prim.Native.Nat.{ℕ, zero, suc, _+_, _-_, _*_, _/_, _%_, _<_, _≤_}
 use native.Mathlib.Omega.{arith}
@@ -11,7 +11,7 @@ use Rattle.words.specs.Below.{listBelow}
 use Rattle.words.proofs.BelowLaws.{list-below-at}
 use Rattle.text.specs.Digits.{valueOf, digitOf}
 use Rattle.text.proofs.ReadBack.{digits-read-back}
-use Rattle.pins.specs.BusLine.{isDriven}
+use Rattle.pins.specs.BusLine.{isDriven, isTrue}
 use Rattle.pins.specs.Pin.{Pin, pinAt, isHigh}
 use Rattle.pins.specs.Picture.{fourBits, pinsDigit, levelDigits, levelsOf, drivenOf, pictureOf}
 use Rattle.pins.specs.ReadAgain.{highOn, drivenOn}
@@ -108,3 +108,9 @@ module _ (m : Moment) (n : ℕ) (low : 1 ≤ n) (high : n ≤ 100) where
       let behind : getD (pictureOf m) (levelDigits + k) 0 ≡ getD (drivenOf m) k 0 =
       ap (λ (i : ℕ). getD (pictureOf m) (i + k) 0) (sym (levels-long m)) ∙ getD-append-add (levelsOf m) (drivenOf m) k 0 in
       ap (λ (d : ℕ). bitAt (valueOf d) (3 - (n - 1) % 4)) behind ∙ pin-bit (λ pin. isDriven (pin .line) m) n low high
+
+  pub low-undriven : drivenOn (pictureOf m) n ≡ false → highOn (pictureOf m) n ≡ false
+  low-undriven none = high-is ∙ ap (λ (b : Bool). b && level) (sym driven-is ∙ none)
+    where
+      level : Bool
+      level = cond (pinAt n .isStarred) (not (isTrue (pinAt n .line) m)) (isTrue (pinAt n .line) m)

@@ -32,7 +32,7 @@ use Rattle.pins.specs.Pin.{pinTable, pinAt, isHigh}
 use Rattle.events.specs.declared.answers.Answer.{Answer}
 use Rattle.pins.specs.Moments.{idleMoment, byteMoment, wordMoment, evenMoment, oddMoment, isSplit, cycleMoments}
 use Rattle.pins.specs.Picture.{pictureOf, linesFor}
-use Rattle.pins.specs.ReadAgain.{trueOn, signalsOn, linesOn, phaseWith, seen, pictureIn}
+use Rattle.pins.specs.ReadAgain.{trueOn, signalsOn, priorityLinesOn, phaseWith, seen, pictureIn}
 use Rattle.pins.specs.Promises.{ReadsBack, AlikePictured, BadPictureRefused, pictures}
 use Rattle.pins.specs.declared.moments.Moment.{Moment}
 use Rattle.pins.specs.declared.moments.Seen.{Seen}
@@ -125,7 +125,7 @@ module _ (x : Moment) where
           + (cond (isOn DODSB s) DODSB 0
           + (cond b pHLDA 0 + (cond (on && isOn sXTRQ s) sXTRQ 0 + (cond (isOn SIXTN s) SIXTN 0 + (cond (isOn HOLD s) HOLD 0 + 0)))))))
 
-  lines-again : x .lines < 16 → linesOn (pictureOf x) ≡ x .lines
+  lines-again : x .lines < 16 → priorityLinesOn (pictureOf x) ≡ x .lines
   unfolding beside pinTable
   lines-again small =
       lines-in-order (pictureOf x)

@@ -25,11 +25,11 @@ pub data BusLine : Type 0 where
   -- power, ground, and what the model lacks
   unmodelled : BusLine
 
--- Address, status and data are driven only in a cycle; what is pulled up counts as driven, and so does MWRT.
+-- Outside a cycle nobody drives address, status or data; what is pulled up counts as driven, and so does MWRT.
 abbrev pub isDriven : BusLine → Moment → Bool
 isDriven (address n) m = m .cyclic
-isDriven (dataOut n) m = m .outward
-isDriven (dataIn n) m = m .inward
+isDriven (dataOut n) m = m .doutDriven
+isDriven (dataIn n) m = m .dinDriven
 isDriven (priority n) m = true
 isDriven (pulledUp weight) m = true
 isDriven (status weight) m = m .cyclic

@@ -48,8 +48,8 @@ idleLine = lineOf 0x0004668000000 0x390004800000 0x000466C000000 0x390105C00000
 pub record Standing : Type 0 where
   -- a reset leaves a free bus
   pub idle : picturesOf (eventOf 0x0F 0 0 0) (answered 0 0xFF 0 0 0 0 0) ≡ idleLine
-  -- a look in arbitration, lines 9: HOLD, DMA0 and DMA3 low
-  pub arbitration : picturesOf (eventOf 0x02 9 0 0) (answered 1 0xFF 9 0x01 0 0 0) ≡ lineOf 0x0000668000000 0x190000800000 0x000466C000000 0x390105C00000
+  -- a look in arbitration, lines 11: HOLD, DMA0, DMA1 and DMA3 low
+  pub arbitration : picturesOf (eventOf 0x02 9 0 0) (answered 1 0xFF 11 0x01 0 0 0) ≡ lineOf 0x0000668000000 0x090000800000 0x000466C000000 0x390105C00000
   -- transfer two: pHLDA high, HOLD high again, three disable lines low
   pub transferTwo : picturesOf (eventOf 0x0D 10 0 0) (answered 5 10 0 0x1E 0 0 0) ≡ lineOf 0x000420C000000 0x390004800000 0x000466C000000 0x390105C00000
   -- a refused event has none
@@ -61,7 +61,7 @@ pub record Cycling : Type 0 where
   -- C539 written at 007346 in one cycle: C5 on DO, 39 on DI
   pub word : picturesOf (eventOf 0x0A 0x10 0x007346 0xC539) (answered 0 0xFF 0 0xC0 0x10 1 0xC539)
       ≡ lineOf 0x00046680D1400 0x3801041DD720 0x0007E6CFFFFE0 0x3FF105FFFFE8
-  -- and read again: the same pins
+  -- and read again: the bytes on the same pins
   pub wordAgain : picturesOf (eventOf 0x09 0x10 0x007346 0) (answered 0 0xFF 0 0xC0 0x01 1 0xC539)
       ≡ lineOf 0x00046680D1420 0x380004DDD728 0x0007E6CFFFFE0 0x3FF105FFFFE8
   -- C539 written at 00AA8A in two: C5 and then 39, both on DO
@@ -70,6 +70,8 @@ pub record Cycling : Type 0 where
   -- and read again, on DI
   pub splitAgain : picturesOf (eventOf 0x09 0x10 0x00AA8A 0) (answered 0 0xFF 0 0x80 0x01 2 0xC539)
       ≡ lineOf 0x0004668340A20 0x390004D2A0A8 0x0007E6CFC8FE0 0x3FF105FFE3E8 ++ lineOf 0x0004668340420 0x3D0004F2A328 0x0007E6CFC8FE0 0x3FF105FFE3E8
+  -- the odd byte of these alone: as the second of the two lines
+  pub read : picturesOf (eventOf 0x06 0x10 0x00AA8B 0) (answered 0 0xFF 0 0 0x01 1 0x39) ≡ lineOf 0x0004668340420 0x3D0004F2A328 0x0007E6CFC8FE0 0x3FF105FFE3E8
   -- 5D written at 00C721, and fetched from there
   pub write : picturesOf (eventOf 0x08 0x10 0x00C721 0x5D) (answered 0 0xFF 0 0 0x10 1 0x5D)
       ≡ lineOf 0x000466895D000 0x3D0104215800 0x0007E6CFFF1E0 0x3FF105FFFC08
@@ -88,7 +90,12 @@ pub record Cycling : Type 0 where
 
 pub record Telling : Type 0 where
   pub idle : pictureIn (take 50 idleLine) ≡ seen 0 0 0x00 0
-  pub arbitration : pictureIn (take 50 (lineOf 0x0000668000000 0x190000800000 0x000466C000000 0x390105C00000)) ≡ seen 0 1 0x01 9
+  pub arbitration : pictureIn (take 50 (lineOf 0x0000668000000 0x090000800000 0x000466C000000 0x390105C00000)) ≡ seen 0 1 0x01 11
+  -- one disable line alone, which no phase has: ADSB, SDSB, DODSB, CDSB
+  pub adsb : pictureIn (take 50 (lineOf 0x0004628000000 0x390004800000 0x000466C000000 0x390105C00000)) ≡ seen 0 0xFF 0x04 0
+  pub sdsb : pictureIn (take 50 (lineOf 0x0004268000000 0x390004800000 0x000466C000000 0x390105C00000)) ≡ seen 0 0xFF 0x08 0
+  pub dodsb : pictureIn (take 50 (lineOf 0x0004648000000 0x390004800000 0x000466C000000 0x390105C00000)) ≡ seen 0 0xFF 0x10 0
+  pub cdsb : pictureIn (take 50 (lineOf 0x0004468000000 0x390004800000 0x000466C000000 0x390105C00000)) ≡ seen 0 0xFF 0x20 0
   pub owned : pictureIn (take 50 (lineOf 0x000400C6FBC20 0x380000DDA828 0x0007E6CFFFFE0 0x3FF105FFFFE8)) ≡ seen 0 4 0xFF 0
   -- nothing driven: nothing true, although starred pins are low
   pub undriven : pictureIn (replicate 50 0x30) ≡ seen 0 0 0x00 0

@@ -1,4 +1,4 @@
--- What the picture of an accepted event shows: one moment, or two for a split word (02, CR 1). It goes by the event and its answer alone.
+-- What the pictures of an accepted event show: one moment, or two for a split word (02, CR 1). They go by the event and its answer alone.
 use Prim.Native.Nat.{ℕ, _+_, _*_, _/_, _%_}
 use mathlib.Core.Bool.{Bool, true, false, cond, not, _&&_, _||_}
 use mathlib.Core.List.{List, [], _∷_}
@@ -25,8 +25,8 @@ momentOf event answer signals address out into drivesOut drivesIn = record {
   dout = out;
   din = into;
   cyclic = drivesOut || drivesIn;
-  outward = drivesOut;
-  inward = drivesIn;
+  doutDriven = drivesOut;
+  dinDriven = drivesIn;
 }
 
 -- ---- The moments
@@ -35,7 +35,7 @@ momentOf event answer signals address out into drivesOut drivesIn = record {
 abbrev pub idleMoment : Event → Answer → Moment
 idleMoment event answer = momentOf event answer (answer .signals) 0 0 0 false false
 
--- a byte cycle: a read byte on DI, a written one on DO
+-- a byte cycle: DI carries what is read, DO what is written
 abbrev pub byteMoment : Event → Answer → ℕ → ℕ → ℕ → Moment
 byteMoment event answer signals address byte =
     momentOf event answer signals address byte byte (isWriting (event .kind)) (isReading (event .kind))
@@ -65,6 +65,7 @@ oddMoment event answer = byteMoment event answer (withoutRequest (answer .signal
 abbrev pub isSplit : Event → Answer → Bool
 isSplit event answer = Kind.isWord (event .kind) && eqb (answer .cycles) 2
 
+-- a byte's datum is below 100h, and its lower half all of it
 abbrev pub cycleMoments : Event → Answer → List Moment
 cycleMoments event answer =
     cond (isSplit event answer) (evenMoment event answer ∷ oddMoment event answer ∷ [])

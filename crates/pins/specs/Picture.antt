@@ -1,4 +1,4 @@
--- The digits of a picture: 25 of levels for pins 1 to 100, the first pin in the top bit, then 25 of which pins are driven (02, CR 1).
+-- The digits of a picture, a bit for each of the hundred pins, pin 1 highest: how high they are, and then whether they are driven (02, CR 1).
 use Prim.Native.Nat.{ℕ, _+_, _*_}
 use mathlib.Core.Bool.{Bool, cond}
 use mathlib.Core.List.{List, [], _∷_, _++_}
@@ -19,7 +19,7 @@ use Rattle.pins.specs.declared.moments.Moment.{Moment}
 abbrev pub fourBits : Bool → Bool → Bool → Bool → ℕ
 fourBits a b c d = cond a 8 0 + cond b 4 0 + cond c 2 0 + cond d 1 0
 
--- the digit for the four pins from that digit's first on, counted from 0: digit 0 has pins 1 to 4
+-- the digit of that number, counted from 0: digit 0 shows pins 1 to 4
 abbrev pub pinsDigit : (Pin → Bool) → ℕ → ℕ
 pinsDigit test k = digitOf (fourBits (test (pinAt (4 * k + 1))) (test (pinAt (4 * k + 2))) (test (pinAt (4 * k + 3))) (test (pinAt (4 * k + 4))))
 

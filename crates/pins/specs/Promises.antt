@@ -8,6 +8,7 @@ use lib.ListN.{length, getD, take}
 use Rattle.words.specs.Among.{isAmong, everyListed}
 use Rattle.phases.specs.Phase as Phase
 use Rattle.phases.specs.Kind as Kind
+use Rattle.phases.specs.Signal.{isOn}
 use Rattle.bus.specs.Refusal as Refusal
 use Rattle.judgement.specs.Table.{isCycle}
 use Rattle.judgement.specs.declared.event.Event.{Event}
@@ -80,10 +81,22 @@ allDriven line pins = everyListed (drivenOn line) pins ≡ true
 abbrev pub noneDriven : List ℕ → List ℕ → Type 0
 noneDriven line pins = everyListed (λ n. not (drivenOn line n)) pins ≡ true
 
+-- Also where no accepted event has it: each bit of an address has its pin, A16 to A23 among them, and so has each disable line.
+abbrev pub AddressOnPins : Type 0
+AddressOnPins = (m : Moment) → m .cyclic ≡ true → m .address < 0x1000000 → numberOn (pictureOf m) addressPins ≡ m .address
+
+abbrev pub DisablingOnPins : Type 0
+DisablingOnPins =
+    (m : Moment)
+    → (highOn (pictureOf m) 22 ≡ not (isOn 0x04 (m .signals)))
+    × ((highOn (pictureOf m) 18 ≡ not (isOn 0x08 (m .signals)))
+    × ((highOn (pictureOf m) 23 ≡ not (isOn 0x10 (m .signals))) × (highOn (pictureOf m) 19 ≡ not (isOn 0x20 (m .signals)))))
+
 -- ---- What each line shows
 
 -- Of the bus in a phase, with a number on the priority lines: HOLD, pHLDA and the disable lines are the phase's, pSYNC and pSTVAL false; what is
--- pulled up is driven, and so are MWRT and the control outputs; what the model lacks is not. MWRT is pWR true and sOUT false.
+-- pulled up is driven, and so are MWRT and the control outputs; what the model lacks is not. MWRT is pWR true and sOUT false. No pin is high that
+-- isn't driven.
 pub record BusShown (phase lines : ℕ) (line : List ℕ) : Type 0 where
   pub hold : highOn line 74 ≡ not (Phase.isFrom Phase.arbitration Phase.owned phase)
   pub hlda : highOn line 26 ≡ Phase.isFrom Phase.granted Phase.transferTwo phase
@@ -97,6 +110,7 @@ pub record BusShown (phase lines : ℕ) (line : List ℕ) : Type 0 where
   pub mwrt : highOn line 68 ≡ (not (highOn line 77) && not (drivenOn line 45 && highOn line 45))
   pub always : allDriven line alwaysPins
   pub never : noneDriven line neverPins
+  pub undriven : (n : ℕ) → 1 ≤ n → n ≤ 100 → drivenOn line n ≡ false → highOn line n ≡ false
 
 -- With no cycle on: no strobe, no SIXTN, and neither address nor status nor data driven.
 pub record NoCycle (line : List ℕ) : Type 0 where
@@ -120,8 +134,8 @@ pub record InCycle (kind address : ℕ) (asksWord sixteen : Bool) (line : List �
   pub xtrq : highOn line 58 ≡ not asksWord
   pub sixtn : highOn line 60 ≡ not sixteen
   pub at : numberOn line addressPins ≡ address
-  pub addressed : allDriven line addressPins
-  pub told : allDriven line statusPins
+  pub addressDriven : allDriven line addressPins
+  pub statusDriven : allDriven line statusPins
 
 -- a byte on DO or on DI, the other lines not driven, and a word's halves on both
 pub record OnDO (byte : ℕ) (line : List ℕ) : Type 0 where
@@ -141,8 +155,8 @@ pub record OnBoth (even odd : ℕ) (line : List ℕ) : Type 0 where
   pub inDriven : allDriven line inPins
 
 -- in a read on DI, in a write on DO
-abbrev pub OnItsHalf : ℕ → ℕ → List ℕ → Type 0
-OnItsHalf kind byte line =
+abbrev pub OnItsPins : ℕ → ℕ → List ℕ → Type 0
+OnItsPins kind byte line =
     (isAmong kind (0x06 ∷ 0x07 ∷ 0x09 ∷ 0x0B ∷ []) ≡ true → OnDI byte line) × (isAmong kind (0x08 ∷ 0x0A ∷ 0x0C ∷ []) ≡ true → OnDO byte line)
 
 -- ---- The lines of an accepted event
@@ -187,7 +201,7 @@ BytePictured =
     (m : Machine) (event : Event) → Bytes m → refusalIn m event ≡ Refusal.accepted → isCycle (event .kind) ≡ true → Kind.isWord (event .kind) ≡ false
     → OneLine (pictures m event)
     (λ line.
-    ShowsBus m event line × (InCycle (event .kind) (event .address) false false line × OnItsHalf (event .kind) (answerTo m event .datum) line))
+    ShowsBus m event line × (InCycle (event .kind) (event .address) false false line × OnItsPins (event .kind) (answerTo m event .datum) line))
 
 -- A word over a sixteen-bit page has one line: the byte at the even address stands on the DO pins, and the odd one on the DI pins, whichever way it
 -- goes. So they stand in the memory afterwards.
@@ -210,10 +224,10 @@ SplitPictured =
     → TwoLines (pictures m event)
     (λ line.
     ShowsBus m event line
-    × (InCycle (event .kind) (event .address) true false line × OnItsHalf (event .kind) (getD (after m event .memory) (event .address) 0) line))
+    × (InCycle (event .kind) (event .address) true false line × OnItsPins (event .kind) (getD (after m event .memory) (event .address) 0) line))
     (λ line.
     ShowsBus m event line
-    × (InCycle (event .kind) (event .address + 1) false false line × OnItsHalf (event .kind) (getD (after m event .memory) (event .address + 1) 0) line))
+    × (InCycle (event .kind) (event .address + 1) false false line × OnItsPins (event .kind) (getD (after m event .memory) (event .address + 1) 0) line))
 
 -- A refused event has none.
 abbrev pub RefusedUnpictured : Type 0

@@ -66,8 +66,8 @@ gathered weigh line (row ∷ rows) = cond (trueOn line (row .0) (row .1 .isStarr
 abbrev pub signalsOn : List ℕ → ℕ
 signalsOn line = gathered signalOn line pinTable
 
-abbrev pub linesOn : List ℕ → ℕ
-linesOn line = gathered priorityOn line pinTable
+abbrev pub priorityLinesOn : List ℕ → ℕ
+priorityLinesOn line = gathered priorityOn line pinTable
 
 -- where no phase has these signals
 abbrev pub phaseUnknown : ℕ
@@ -83,7 +83,7 @@ abbrev pub seen : ℕ → ℕ → ℕ → ℕ → Seen
 seen refusal phase signals lines = record { refusal = refusal; phase = phase; signals = signals; lines = lines }
 
 abbrev pub seenOn : List ℕ → Seen
-seenOn line = seen accepted (phaseWith (signalsOn line)) (signalsOn line) (linesOn line)
+seenOn line = seen accepted (phaseWith (signalsOn line)) (signalsOn line) (priorityLinesOn line)
 
 unfoldable pub pictureIn : List ℕ → Seen
 pictureIn line = cond (isDigits pictureDigits line) (seenOn line) (seen badLine 0 0 0)

@@ -13,10 +13,10 @@ pub struct Moment {
     // The byte on the DO lines, and that on the DI lines.
     pub dout: u8,
     pub din: u8,
-    // A cycle is on, so that address and status are driven, and the data lines that it moves a byte on.
+    // A cycle is on: address and status are driven. Whether DO is driven, and whether DI is.
     pub cyclic: bool,
-    pub outward: bool,
-    pub inward: bool,
+    pub doutDriven: bool,
+    pub dinDriven: bool,
 }
 
 // What the pins of a picture tell, or why its line can't be read.

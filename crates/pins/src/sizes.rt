@@ -1,8 +1,5 @@
 // The lengths of a picture.
 
-// Pins that one digit shows.
-pub const PINS_TO_A_DIGIT: usize = 4;
-
 // The digits of the levels, and as many of which pins are driven.
 pub const LEVEL_DIGITS: usize = 25;
 

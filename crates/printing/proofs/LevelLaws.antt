@@ -17,11 +17,11 @@ shownLevels m = listBelow (pinsDigit (λ pin. shownBy (pin .line) m (isHigh pin 
 -- by what is driven; where nothing is, a bit of 0 is not set
 pub quieted-levels : (m : Moment) → shownLevels (quieted m) ≡ levelsOf m
 unfolding listBelow beside pinTable levelsOf
-quieted-levels m = go (m .signals) (m .lines) (m .control) (m .status) (m .address) (m .dout) (m .din) (m .cyclic) (m .outward) (m .inward)
+quieted-levels m = go (m .signals) (m .lines) (m .control) (m .status) (m .address) (m .dout) (m .din) (m .cyclic) (m .doutDriven) (m .dinDriven)
   where
     at : ℕ → ℕ → ℕ → ℕ → ℕ → ℕ → ℕ → Bool → Bool → Bool → Moment
     at s l k t a o i c out into =
-        record { signals = s; lines = l; control = k; status = t; address = a; dout = o; din = i; cyclic = c; outward = out; inward = into }
+        record { signals = s; lines = l; control = k; status = t; address = a; dout = o; din = i; cyclic = c; doutDriven = out; dinDriven = into }
 
     go : (s l k t a o i : ℕ) (c out into : Bool) → shownLevels (quieted (at s l k t a o i c out into)) ≡ levelsOf (at s l k t a o i c out into)
     go s l k t a o i true true true = refl

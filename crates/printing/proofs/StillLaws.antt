@@ -21,13 +21,13 @@ module _ (m : Moment) (still : m .cyclic ≡ false) where
   unfolding listBelow beside pinTable
   still-1 = rw still refl
 
-  pub still-21 : m .outward ≡ false → fiveLevels 5 m
+  pub still-21 : m .doutDriven ≡ false → fiveLevels 5 m
       ≡ digitOf (fourBits false (not (isOn ADSB (m .signals))) (not (isOn DODSB (m .signals))) false)
       ∷ digitOf (fourBits (not (isOn pSTVAL (m .control))) (isOn pHLDA (m .control)) false false) ∷ 0x30 ∷ 0x30 ∷ 0x30 ∷ []
   unfolding listBelow beside pinTable
   still-21 out = rw (still, out) refl
 
-  pub still-41 : m .inward ≡ false → fiveLevels 10 m
+  pub still-41 : m .dinDriven ≡ false → fiveLevels 10 m
       ≡ 0x30 ∷ 0x30 ∷ 0x30 ∷ digitOf (fourBits false false (not (isOn 1 (m .lines))) (not (isOn 2 (m .lines))))
       ∷ digitOf (fourBits (not (isOn 4 (m .lines))) false false (not (isOn SIXTN (m .signals)))) ∷ []
   unfolding listBelow beside pinTable
@@ -40,11 +40,11 @@ module _ (m : Moment) (still : m .cyclic ≡ false) where
   unfolding listBelow beside pinTable
   still-61 = rw still refl
 
-  pub still-81 : m .outward ≡ false → m .inward ≡ false → fiveLevels 20 m ≡ 0x30 ∷ 0x30 ∷ 0x30 ∷ 0x30 ∷ 0x30 ∷ []
+  pub still-81 : m .doutDriven ≡ false → m .dinDriven ≡ false → fiveLevels 20 m ≡ 0x30 ∷ 0x30 ∷ 0x30 ∷ 0x30 ∷ 0x30 ∷ []
   unfolding listBelow beside pinTable
   still-81 out into = rw (still, out, into) refl
 
-  pub still-driven : m .outward ≡ false → m .inward ≡ false → drivenOf m
+  pub still-driven : m .doutDriven ≡ false → m .dinDriven ≡ false → drivenOf m
       ≡ 0x30 ∷ 0x30 ∷ 0x30 ∷ 0x34 ∷ 0x36 ∷ 0x36 ∷ 0x43 ∷ 0x30 ∷ 0x30 ∷ 0x30 ∷ 0x30 ∷ 0x30 ∷ 0x30 ∷ 0x33 ∷ 0x39 ∷ 0x30 ∷ 0x31 ∷ 0x30 ∷ 0x35 ∷ 0x43
       ∷ 0x30 ∷ 0x30 ∷ 0x30 ∷ 0x30 ∷ 0x30 ∷ []
   unfolding listBelow beside pinTable drivenOf

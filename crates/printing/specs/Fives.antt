@@ -28,11 +28,11 @@ quieted m = record {
   control = m .control;
   status = m .status;
   address = cond (m .cyclic) (m .address) 0;
-  dout = cond (m .outward) (m .dout) 0;
-  din = cond (m .inward) (m .din) 0;
+  dout = cond (m .doutDriven) (m .dout) 0;
+  din = cond (m .dinDriven) (m .din) 0;
   cyclic = m .cyclic;
-  outward = m .outward;
-  inward = m .inward;
+  doutDriven = m .doutDriven;
+  dinDriven = m .dinDriven;
 }
 
 -- then their pins need not be asked whether they are driven

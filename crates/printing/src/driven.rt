@@ -42,7 +42,7 @@ fn put_driven_21(m: Moment, out: &mut [u8])
     ensures { λ _. ⌜ now (out .exit) ≡ sets (now (out .entry)) 30 (fiveDriven 5 m) ⌝ }
 {
     let cyclic = m.cyclic;
-    let outward = m.outward;
+    let dout_driven = m.doutDriven;
     put_five(
         out,
         DRIVEN_AT + 5,
@@ -51,13 +51,13 @@ fn put_driven_21(m: Moment, out: &mut [u8])
         either(cyclic, b'F', b'0'),
         either(
             cyclic,
-            either(outward, b'F', b'C'),
-            either(outward, b'3', b'0'),
+            either(dout_driven, b'F', b'C'),
+            either(dout_driven, b'3', b'0'),
         ),
         either(
             cyclic,
-            either(outward, b'F', b'8'),
-            either(outward, b'7', b'0'),
+            either(dout_driven, b'F', b'8'),
+            either(dout_driven, b'7', b'0'),
         ),
     );
 }
@@ -67,14 +67,14 @@ fn put_driven_41(m: Moment, out: &mut [u8])
     ensures { λ _. ⌜ now (out .exit) ≡ sets (now (out .entry)) 35 (fiveDriven 10 m) ⌝ }
 {
     let cyclic = m.cyclic;
-    let inward = m.inward;
+    let din_driven = m.dinDriven;
     put_five(
         out,
         DRIVEN_AT + 10,
         either(
             cyclic,
-            either(inward, b'F', b'1'),
-            either(inward, b'E', b'0'),
+            either(din_driven, b'F', b'1'),
+            either(din_driven, b'E', b'0'),
         ),
         either(cyclic, b'E', b'0'),
         b'0',
@@ -104,23 +104,23 @@ fn put_driven_81(m: Moment, out: &mut [u8])
     ensures { λ _. ⌜ now (out .exit) ≡ sets (now (out .entry)) 45 (fiveDriven 20 m) ⌝ }
 {
     let cyclic = m.cyclic;
-    let outward = m.outward;
-    let inward = m.inward;
+    let dout_driven = m.doutDriven;
+    let din_driven = m.dinDriven;
     put_five(
         out,
         DRIVEN_AT + 20,
         either(cyclic, b'F', b'0'),
         either(
             cyclic,
-            either(outward, b'F', b'E'),
-            either(outward, b'1', b'0'),
+            either(dout_driven, b'F', b'E'),
+            either(dout_driven, b'1', b'0'),
         ),
         either(
-            outward,
-            either(inward, b'F', b'C'),
-            either(inward, b'3', b'0'),
+            dout_driven,
+            either(din_driven, b'F', b'C'),
+            either(din_driven, b'3', b'0'),
         ),
-        either(inward, b'E', b'0'),
+        either(din_driven, b'E', b'0'),
         either(cyclic, b'8', b'0'),
     );
 }

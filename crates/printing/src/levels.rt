@@ -61,13 +61,13 @@ const A22: u32 = 0x400000;
 
 const A23: u32 = 0x800000;
 
-const D0: u8 = 0x01;
+pub const D0: u8 = 0x01;
 
-const D1: u8 = 0x02;
+pub const D1: u8 = 0x02;
 
-const D2: u8 = 0x04;
+pub const D2: u8 = 0x04;
 
-const D3: u8 = 0x08;
+pub const D3: u8 = 0x08;
 
 const D4: u8 = 0x10;
 
@@ -99,11 +99,11 @@ fn quieted(m: Moment) -> Moment
         control: m.control,
         status: m.status,
         address: address_if(m.cyclic, m.address),
-        dout: byte_if(m.outward, m.dout),
-        din: byte_if(m.inward, m.din),
+        dout: byte_if(m.doutDriven, m.dout),
+        din: byte_if(m.dinDriven, m.din),
         cyclic: m.cyclic,
-        outward: m.outward,
-        inward: m.inward,
+        doutDriven: m.doutDriven,
+        dinDriven: m.dinDriven,
     }
 }
 

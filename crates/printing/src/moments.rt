@@ -13,8 +13,8 @@ use tables::control;
 pub struct DataLines {
     pub out: u8,
     pub into: u8,
-    pub outward: bool,
-    pub inward: bool,
+    pub doutDriven: bool,
+    pub dinDriven: bool,
 }
 
 pub fn is_reading(kind: u8) -> bool
@@ -30,7 +30,7 @@ pub fn is_writing(kind: u8) -> bool
 }
 
 fn moment(event: Event, answer: Answer, signals: u8, address: u32, on: DataLines) -> Moment
-    ensures { λ r. ⌜ r ≡ momentOf event answer signals address (on .out) (on .into) (on .outward) (on .inward) ⌝ }
+    ensures { λ r. ⌜ r ≡ momentOf event answer signals address (on .out) (on .into) (on .doutDriven) (on .dinDriven) ⌝ }
 {
     Moment {
         signals: signals,
@@ -40,9 +40,9 @@ fn moment(event: Event, answer: Answer, signals: u8, address: u32, on: DataLines
         address: address,
         dout: on.out,
         din: on.into,
-        cyclic: on.outward | on.inward,
-        outward: on.outward,
-        inward: on.inward,
+        cyclic: on.doutDriven | on.dinDriven,
+        doutDriven: on.doutDriven,
+        dinDriven: on.dinDriven,
     }
 }
 
@@ -57,8 +57,8 @@ pub fn idle_moment(event: Event, answer: Answer) -> Moment
         DataLines {
             out: 0,
             into: 0,
-            outward: false,
-            inward: false,
+            doutDriven: false,
+            dinDriven: false,
         },
     )
 }
@@ -74,8 +74,8 @@ pub fn byte_moment(event: Event, answer: Answer, signals: u8, address: u32, byte
         DataLines {
             out: byte,
             into: byte,
-            outward: is_writing(event.kind),
-            inward: is_reading(event.kind),
+            doutDriven: is_writing(event.kind),
+            dinDriven: is_reading(event.kind),
         },
     )
 }
@@ -91,8 +91,8 @@ pub fn word_moment(event: Event, answer: Answer) -> Moment
         DataLines {
             out: even_half(answer.datum),
             into: odd_half(answer.datum),
-            outward: true,
-            inward: true,
+            doutDriven: true,
+            dinDriven: true,
         },
     )
 }

@@ -38,7 +38,7 @@ fn put_accepted(event: Event, answer: Answer, out: &mut [u8]) -> usize
 {
     if answer.refusal == ACCEPTED {
         if is_reading(event.kind) | is_writing(event.kind) {
-            put_cycle(event, answer, out)
+            put_cycle_lines(event, answer, out)
         } else {
             put_one(idle_moment(event, answer), out)
         }
@@ -47,7 +47,7 @@ fn put_accepted(event: Event, answer: Answer, out: &mut [u8]) -> usize
     }
 }
 
-fn put_cycle(event: Event, answer: Answer, out: &mut [u8]) -> usize
+fn put_cycle_lines(event: Event, answer: Answer, out: &mut [u8]) -> usize
     requires { ⌜ mostPictured ≤ length (now out) ⌝ }
     ensures put { λ r. ⌜ r ≡ length (linesFor (cycleMoments event answer)) ⌝ }
     ensures left { λ _. ⌜ now (out .exit) ≡ sets (now (out .entry)) 0 (linesFor (cycleMoments event answer)) ⌝ }
@@ -94,12 +94,12 @@ fn put_line(m: Moment, out: &mut [u8])
     out[PICTURE_DIGITS] = NEWLINE;
 }
 
-// Most events are no cycles, and their pictures are put with less work.
+// An event that is no cycle is put with less work.
 fn put_pins(m: Moment, out: &mut [u8])
     requires { ⌜ pictureLength ≤ length (now out) ⌝ }
     ensures { λ _. ⌜ now (out .exit) ≡ sets (sets (now (out .entry)) 0 (levelsOf m)) levelDigits (drivenOf m) ⌝ }
 {
-    if m.cyclic | m.outward | m.inward {
+    if m.cyclic | m.doutDriven | m.dinDriven {
         put_levels(m, out);
         put_driven(m, out);
     } else {

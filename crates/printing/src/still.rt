@@ -6,6 +6,10 @@ ghost use lib.ListN.{length};
 ghost use lib.Seq.{sets};
 ghost use Rattle.pins.specs.Picture.{pictureLength, levelDigits, drivenOf};
 ghost use Rattle.printing.specs.Fives.{fiveLevels};
+use crate::levels::D0;
+use crate::levels::D1;
+use crate::levels::D2;
+use crate::levels::D3;
 use crate::pin_digits::ZERO;
 use crate::pin_digits::pin_digit;
 use crate::pin_digits::put_five;
@@ -17,21 +21,21 @@ use pins::sizes::DRIVEN_AT;
 pub fn put_still_1(m: Moment, out: &mut [u8])
     requires { ⌜ pictureLength ≤ length (now out) ⌝ }
     requires { ⌜ m .cyclic ≡ false ⌝ }
-    requires { ⌜ m .outward ≡ false ⌝ }
+    requires { ⌜ m .doutDriven ≡ false ⌝ }
     ensures { λ _. ⌜ now (out .exit) ≡ sets (sets (now (out .entry)) 0 (fiveLevels 0 m)) 5 (fiveLevels 5 m) ⌝ }
 {
     let lines = m.lines;
     let signals = m.signals;
     let control = m.control;
-    let dma3 = pin_digit(false, !(lines / 8 % 2 == 1), false, false);
-    let status_control = pin_digit(
+    let dma3 = pin_digit(false, !(lines / D3 % 2 == 1), false, false);
+    let sdsb_cdsb = pin_digit(
         false,
         !(signals / SDSB % 2 == 1),
         !(signals / CDSB % 2 == 1),
         false,
     );
-    put_five(out, 0, ZERO, ZERO, ZERO, dma3, status_control);
-    let address_data = pin_digit(
+    put_five(out, 0, ZERO, ZERO, ZERO, dma3, sdsb_cdsb);
+    let adsb_dodsb = pin_digit(
         false,
         !(signals / ADSB % 2 == 1),
         !(signals / DODSB % 2 == 1),
@@ -43,23 +47,23 @@ pub fn put_still_1(m: Moment, out: &mut [u8])
         false,
         false,
     );
-    put_five(out, 5, address_data, outputs, ZERO, ZERO, ZERO);
+    put_five(out, 5, adsb_dodsb, outputs, ZERO, ZERO, ZERO);
 }
 
 // The other priority lines, SIXTN, MWRT, HOLD and the other control outputs, among pins 41 to 80.
 pub fn put_still_41(m: Moment, out: &mut [u8])
     requires { ⌜ pictureLength ≤ length (now out) ⌝ }
     requires { ⌜ m .cyclic ≡ false ⌝ }
-    requires { ⌜ m .inward ≡ false ⌝ }
+    requires { ⌜ m .dinDriven ≡ false ⌝ }
     ensures { λ _. ⌜ now (out .exit) ≡ sets (sets (now (out .entry)) 10 (fiveLevels 10 m)) 15 (fiveLevels 15 m) ⌝ }
 {
     let lines = m.lines;
     let signals = m.signals;
     let control = m.control;
     let status = m.status;
-    let dma0_dma1 = pin_digit(false, false, !(lines / 1 % 2 == 1), !(lines / 2 % 2 == 1));
+    let dma0_dma1 = pin_digit(false, false, !(lines / D0 % 2 == 1), !(lines / D1 % 2 == 1));
     let dma2_sixtn = pin_digit(
-        !(lines / 4 % 2 == 1),
+        !(lines / D2 % 2 == 1),
         false,
         false,
         !(signals / SIXTN % 2 == 1),
@@ -90,8 +94,8 @@ pub fn put_still_41(m: Moment, out: &mut [u8])
 pub fn put_still_rest(m: Moment, out: &mut [u8])
     requires { ⌜ pictureLength ≤ length (now out) ⌝ }
     requires { ⌜ m .cyclic ≡ false ⌝ }
-    requires { ⌜ m .outward ≡ false ⌝ }
-    requires { ⌜ m .inward ≡ false ⌝ }
+    requires { ⌜ m .doutDriven ≡ false ⌝ }
+    requires { ⌜ m .dinDriven ≡ false ⌝ }
     ensures { λ _. ⌜ now (out .exit) ≡ sets (sets (now (out .entry)) 20 (fiveLevels 20 m)) levelDigits (drivenOf m) ⌝ }
 {
     put_five(out, 20, ZERO, ZERO, ZERO, ZERO, ZERO);

@@ -15,7 +15,7 @@ use session::Wanted;
 struct Turn {
     // There is more to come: nothing failed, and neither the input nor the run has ended.
     goes_on: bool,
-    // There was room for another answer, so that nothing complete is held, and more has to be read.
+    // There was room for another line, so that nothing complete is held, and more has to be read.
     reads: bool,
     session: Session,
     held: usize,
@@ -69,7 +69,7 @@ fn turns_left(left: u64, goes_on: bool) -> u64
     if goes_on { left - 1 } else { 0 }
 }
 
-// It reads only once every complete line is answered, so that nobody waits for an answer while the program waits for more.
+// It reads only once every complete line is taken, so that nobody waits for an answer or a picture while the program waits for more.
 fn take_turn(
     wanted: Wanted,
     session: Session,

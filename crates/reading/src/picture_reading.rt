@@ -6,7 +6,7 @@ ghost use lib.ListN.{length};
 ghost use Rattle.words.specs.Among.{everyListed};
 ghost use Rattle.text.specs.Digits.{isDigit};
 ghost use Rattle.pins.specs.Picture.{pictureDigits};
-ghost use Rattle.pins.specs.ReadAgain.{bitFrom, trueOn, signalsOn, linesOn, phaseWith, seenOn, pictureIn};
+ghost use Rattle.pins.specs.ReadAgain.{bitFrom, trueOn, signalsOn, priorityLinesOn, phaseWith, seenOn, pictureIn};
 ghost use Rattle.reading.specs.Signals.{disablingOn, othersOn};
 use crate::digits::all_digits;
 use crate::digits::value;
@@ -85,7 +85,7 @@ fn others_on(line: &[u8]) -> u8
 fn lines_on(line: &[u8]) -> u8
     requires { ⌜ length (now line) ≡ pictureDigits ⌝ }
     requires { ⌜ everyListed isDigit (now line) ≡ true ⌝ }
-    ensures { λ r. ⌜ r ≡ linesOn (now (line .entry)) ⌝ }
+    ensures { λ r. ⌜ r ≡ priorityLinesOn (now (line .entry)) ⌝ }
 {
     weight_on(line, 14, true, 8)
         + weight_on(line, 55, true, 1)
@@ -129,7 +129,7 @@ fn bit_from(line: &[u8], at: usize, pin: usize) -> bool
     (digit >> (3 - (pin - 1) % 4)) % 2 == 1
 }
 
-// The signals of a phase, of those that an answer weighs.
+// What the phases' signals weigh together.
 const DISABLING: u8 = ADSB + SDSB + DODSB;
 
 const WITH_GRANT: u8 = HOLD + P_HLDA;

@@ -1,19 +1,26 @@
 -- States, answers and calls written out, by computation.
 use mathlib.Core.Path.{refl}
-use Rattle.words.specs.Below.{allBelow, orBelow}
-use Rattle.words.specs.Among.{everyListed}
+use Rattle.words.specs.Below.{allBelow, orBelow, listBelow}
+use Rattle.words.specs.Among.{everyListed, isAmong, beside, whoHas}
 use Rattle.words.specs.First.{firstOf, leastBelow}
 use Rattle.lines.specs.Look.{look}
 use Rattle.lines.specs.Arbitration.{everyContender, shown, looked, settled, afterLook}
+use Rattle.phases.specs.Signal.{signalsIn}
+use Rattle.phases.specs.Control.{strobeOf, controlIn}
 use Rattle.cards.specs.Cards.{someCard, isWithin}
 use Rattle.bus.specs.Sense.{drivingFits, standingFits, makesSense}
 use Rattle.bus.specs.Steps.{afterLooksOf}
 use Rattle.bus.specs.Settle.{settledAfter, leadingLooks, neverSettles, settleRefusal, settleOf}
 use Rattle.judgement.specs.Judge.{refusalOf}
 use Rattle.events.specs.Step.{answerTo}
+use Rattle.text.specs.Digits.{digitsOf}
+use Rattle.pins.specs.Pin.{pinTable}
+use Rattle.pins.specs.Moments.{momentsOf}
+use Rattle.pins.specs.Picture.{levelsOf, drivenOf, linesFor}
+use Rattle.pins.specs.ReadAgain.{gathered, pictureIn}
 use Rattle.s100_c.specs.Layout.{stateBytes, busIn, answerBytes, answerIn}
 use Rattle.s100_c.specs.Calls.{stepAnswers, stepLeaves}
-use Rattle.s100_c.specs.Examples.{BytesInPlace, FieldsInPlace, SetupCalls, StepCalls, SettleCalls}
+use Rattle.s100_c.specs.Examples.{BytesInPlace, FieldsInPlace, SetupCalls, StepCalls, SettleCalls, PictureCalls}
 
 pub bytes-in-place : BytesInPlace
 unfolding busIn stateBytes answerBytes answerIn
@@ -74,4 +81,22 @@ settle-calls = record {
   nineLeaves = refl;
   shortAnswers = refl;
   shortCounts = refl;
+}
+
+pub picture-calls : PictureCalls
+unfolding answerIn allBelow everyListed isAmong listBelow beside whoHas signalsIn strobeOf controlIn digitsOf pinTable momentsOf levelsOf drivenOf
+    linesFor gathered pictureIn
+picture-calls = record {
+  answers = refl;
+  leaves = refl;
+  refusedAnswers = refl;
+  refusedLeaves = refl;
+  shortAnswers = refl;
+  shortLeaves = refl;
+  readAgain = refl;
+  readLeft = refl;
+  badRead = refl;
+  badLeft = refl;
+  shortRead = refl;
+  shortLeft = refl;
 }

@@ -1,4 +1,4 @@
--- No refusal has the number of a wrong length: those of 01 are small.
+-- No answer has the number of a wrong length: the refusals of 01 are small, and so are the bytes of an event's pictures.
 use mathlib.Core.Path.{_≡_, refl, _∙_}
 use mathlib.Core.Logic.{⊎-elim}
 use mathlib.Core.Bool.{Bool, true, false, cond, _&&_, and-eq-true-iff}
@@ -6,6 +6,7 @@ use mathlib.Core.List.{List, [], _∷_}
 use Prim.Native.Nat.{ℕ, _<_}
 use native.Mathlib.Omega.{arith}
 use lib.Dec.{eqb, ltb, lit<}
+use lib.ListN.{length}
 use borrow.Author.Tests.{ltb-true}
 use Rattle.words.specs.First.{Reason, firstOf}
 use Rattle.words.proofs.TestLaws.{true-or-false}
@@ -17,11 +18,17 @@ use Rattle.bus.specs.Settle.{settleReasons, settleRefusal, settleOf}
 use Rattle.bus.specs.declared.state.Bus.{Bus}
 use Rattle.bus.specs.declared.state.Chassis.{Chassis}
 use Rattle.judgement.specs.Judge.{reasonsAgainst, refusalOf}
+use Rattle.judgement.specs.Table.{eventOf}
 use Rattle.judgement.specs.declared.event.Event.{Event}
 use Rattle.events.specs.Machine.{Machine}
 use Rattle.events.specs.Step.{refusalIn}
 use Rattle.events.proofs.Refused.{answers-refusal}
-use Rattle.s100_c.specs.Layout.{isState, busIn}
+use Rattle.text.specs.Digits.{isDigits}
+use Rattle.pins.specs.Picture.{pictureDigits}
+use Rattle.pins.specs.ReadAgain.{pictureIn}
+use Rattle.pins.proofs.DigitLaws.{pictures-fit}
+use Rattle.s100_c.specs.Layout.{isState, busIn, answerIn}
+use Rattle.s100_c.specs.Pictures.{picturesFor, pictureFits, isSeen}
 use Rattle.s100_c.specs.Calls.{setupFits, machineIn, placesFit}
 use Rattle.s100_c.specs.Promises.{WrongLengthIsOwn}
 use Rattle.s100_c.proofs.CallPromises.{setup-is-the-setup, step-is-the-step, settle-is-the-settle}
@@ -56,6 +63,10 @@ settle-small bus cards =
     (λ refused. rw refused (first-small (settleReasons bus cards) refl))
     (true-or-false (eqb (settleRefusal bus cards) Refusal.accepted))
 
+read-small : (line : List ℕ) → pictureIn line .refusal < wrongLength
+unfolding pictureIn
+read-small line = ⊎-elim (λ right. rw right (lit< tt)) (λ bad. rw bad (lit< tt)) (true-or-false (isDigits pictureDigits line))
+
 -- so a number that is as large tells that a length was wrong
 told : (fits : Bool) {r n : ℕ} → (fits ≡ true → r ≡ n) → n < wrongLength → r ≡ wrongLength → fits ≡ false
 told true same low e = absurd (omega (arith, same refl, low, e))
@@ -68,6 +79,14 @@ wrong-length-is-own = (
     λ given event.
         told (placesFit given) (λ places. step-is-the-step given event places .0 ∙ answers-refusal (machineIn given) event)
         (refusal-small (machineIn given) event),
-    λ state cards. told (isState state) (λ fits. settle-is-the-settle state cards 0 fits .0) (settle-small (busIn state) cards),
+    (
+      λ state cards. told (isState state) (λ fits. settle-is-the-settle state cards 0 fits .0) (settle-small (busIn state) cards),
+      (
+        λ kind address answer place.
+            told (pictureFits answer place) {n = length (picturesFor kind address answer)} (λ fits. rw fits refl)
+            (let most = pictures-fit (eventOf kind 0 address 0) (answerIn answer) in omega (arith, most)),
+        λ line place. told (isSeen place) {n = pictureIn line .refusal} (λ fits. rw fits refl) (read-small line),
+      ),
+    ),
   ),
 )

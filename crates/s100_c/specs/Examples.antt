@@ -3,7 +3,7 @@ use Prim.Native.Nat.{ℕ, _-_}
 use mathlib.Core.Path.{_≡_}
 use mathlib.Core.Bool.{false}
 use mathlib.Core.List.{List, [], _∷_, _++_}
-use lib.ListN.{replicate}
+use lib.ListN.{replicate, take}
 use Rattle.bus.specs.Refusal.{wrongLength}
 use Rattle.bus.specs.Refusal as Refusal
 use Rattle.bus.specs.State.{chassis, stateOf, linesOf}
@@ -12,6 +12,7 @@ use Rattle.phases.specs.Kind as Kind
 use Rattle.judgement.specs.Table.{eventOf}
 use Rattle.judgement.specs.declared.event.Event.{Event}
 use Rattle.events.specs.declared.answers.Answer.{Answer}
+use Rattle.pins.specs.Examples.{idleLine}
 use Rattle.s100_c.specs.Layout.{stateSize, stateBytes, busIn, answerSize, answerBytes, answerIn}
 use Rattle.s100_c.specs.Calls.{
   setupAnswers,
@@ -28,6 +29,7 @@ use Rattle.s100_c.specs.Calls.{
   entryOf,
   isSensible,
 }
+use Rattle.s100_c.specs.Pictures.{pictureAnswers, pictureLeaves, readAnswers, readLeaves}
 
 -- ---- The layout: at every place the place's own number
 
@@ -140,3 +142,27 @@ pub record SettleCalls : Type 0 where
   pub nineLeaves : settleLeaves fourNineTen nine ≡ fourNineTen
   pub shortAnswers : settleAnswers (replicate (stateSize - 1) 0) twelve ≡ wrongLength
   pub shortCounts : settleCounts (replicate (stateSize - 1) 0) twelve 77 ≡ 77
+
+-- ---- Pictures: a reset leaves a free bus
+
+abbrev pub freeAnswer : List ℕ
+freeAnswer = 0x00 ∷ 0x00 ∷ 0xFF ∷ [] ++ replicate 6 0x00
+
+-- an acknowledge, unsettled
+abbrev pub refusedAnswer : List ℕ
+refusedAnswer = 0x08 ∷ 0x01 ∷ 0xFF ∷ [] ++ replicate 6 0x00
+
+pub record PictureCalls : Type 0 where
+  pub answers : pictureAnswers 0x0F 0 freeAnswer (replicate 102 0x55) ≡ 51
+  pub leaves : pictureLeaves 0x0F 0 freeAnswer (replicate 102 0x55) ≡ idleLine ++ replicate 51 0x55
+  pub refusedAnswers : pictureAnswers 0x03 0 refusedAnswer (replicate 102 0x55) ≡ 0
+  pub refusedLeaves : pictureLeaves 0x03 0 refusedAnswer (replicate 102 0x55) ≡ replicate 102 0x55
+  pub shortAnswers : pictureAnswers 0x0F 0 freeAnswer (replicate 101 0x55) ≡ wrongLength
+  pub shortLeaves : pictureLeaves 0x0F 0 freeAnswer (replicate 101 0x55) ≡ replicate 101 0x55
+  pub readAgain : readAnswers (take 50 idleLine) (replicate 3 0x55) ≡ Refusal.accepted
+  pub readLeft : readLeaves (take 50 idleLine) (replicate 3 0x55) ≡ 0 ∷ 0 ∷ 0 ∷ []
+  -- with its newline it is no line of fifty digits
+  pub badRead : readAnswers idleLine (replicate 3 0x55) ≡ Refusal.badLine
+  pub badLeft : readLeaves idleLine (replicate 3 0x55) ≡ replicate 3 0x55
+  pub shortRead : readAnswers (take 50 idleLine) (replicate 2 0x55) ≡ wrongLength
+  pub shortLeft : readLeaves (take 50 idleLine) (replicate 2 0x55) ≡ replicate 2 0x55

@@ -34,7 +34,7 @@ use Rattle.s100_c.specs.Calls.{
   settleLeaves,
   settleCounts,
 }
-use Rattle.s100_c.specs.Pictures.{pictureAnswers, pictureLeaves, readAnswers, readLeaves}
+use Rattle.s100_c.specs.Pictures.{pictureFits, pictureAnswers, pictureLeaves, isSeen, readAnswers, readLeaves}
 use Rattle.s100_c.specs.Run.{Placed, bytesAfter, callsTaken}
 
 -- ---- The layout
@@ -88,7 +88,9 @@ abbrev pub WrongLengthIsOwn : Type 0
 WrongLengthIsOwn =
     ((given : Chassis) (state : List ℕ) → setupAnswers given state ≡ wrongLength → setupFits given state ≡ false)
     × (((given : Lent) (event : Event) → stepAnswers given event ≡ wrongLength → placesFit given ≡ false)
-    × ((state cards : List ℕ) → settleAnswers state cards ≡ wrongLength → isState state ≡ false))
+    × (((state cards : List ℕ) → settleAnswers state cards ≡ wrongLength → isState state ≡ false)
+    × (((kind address : ℕ) (answer place : List ℕ) → pictureAnswers kind address answer place ≡ wrongLength → pictureFits answer place ≡ false)
+    × ((line place : List ℕ) → readAnswers line place ≡ wrongLength → isSeen place ≡ false))))
 
 -- ---- Else a call is the model's: decoding what it leaves gives what the model's function gives.
 

@@ -10,7 +10,7 @@ use Rattle.text.specs.Digits.{numberAfter, digitsOf}
 use Rattle.text.specs.Newlines.{linesAfter, lastLine}
 use Rattle.text.specs.Reading.{answersTo}
 use Rattle.session.specs.World.{saysBy, turnsBy, freshWorld}
-use Rattle.session.specs.Examples.{SetupOutputs, BadLineOutputs, FreshSession, CallRefusals}
+use Rattle.session.specs.Examples.{SetupOutputs, BadLineOutputs, PictureOutputs, FreshSession, CallRefusals}
 
 pub setup-outputs : SetupOutputs
 unfolding beside signalsIn everyListed allBelow orBelow shown numberAfter digitsOf linesAfter lastLine answersTo saysBy turnsBy freshWorld
@@ -19,6 +19,10 @@ setup-outputs = record { accepted = refl; unended = refl; page = refl; tooShort 
 pub bad-line-outputs : BadLineOutputs
 unfolding beside signalsIn everyListed allBelow orBelow shown numberAfter digitsOf linesAfter lastLine answersTo saysBy turnsBy freshWorld
 bad-line-outputs = record { each = refl }
+
+pub picture-outputs : PictureOutputs
+unfolding beside signalsIn everyListed allBelow orBelow shown numberAfter digitsOf linesAfter lastLine answersTo saysBy turnsBy freshWorld
+picture-outputs = record { setUp = refl; bad = refl; refused = refl }
 
 pub fresh-session : FreshSession
 fresh-session = record { waits = refl; noCards = refl; noPages = refl }

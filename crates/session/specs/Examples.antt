@@ -51,6 +51,18 @@ pub record SetupOutputs : Type 0 where
 pub record BadLineOutputs : Type 0 where
   pub each : output Answers (setup ++ newline ∷ newline ∷ setup ++ newline ∷ 0x30 ∷ []) ≡ freeLine ++ lineRefused ++ lineRefused ++ lineRefused
 
+-- ---- Pictures
+
+-- a line that resets the bus
+abbrev pub resetFrame : List ℕ
+resetFrame = 0x30 ∷ 0x46 ∷ replicate 12 0x30
+
+-- Neither a setup line nor a bad one has a picture, and what follows a refused setup line has none either.
+pub record PictureOutputs : Type 0 where
+  pub setUp : output Pictures (setup ++ newline ∷ []) ≡ []
+  pub bad : output Pictures (setup ++ newline ∷ newline ∷ setup ++ newline ∷ 0x30 ∷ []) ≡ []
+  pub refused : output Pictures (page3 ++ newline ∷ resetFrame ++ newline ∷ []) ≡ []
+
 -- ---- A session before its first line, and the refusals of a call
 
 pub record FreshSession : Type 0 where

@@ -1,4 +1,4 @@
--- A call that is given the text read so far: it answers the lines that have ended, as many as there is room for, and holds the rest (01, "The
+-- A call that is given the text read so far: it takes the lines that have ended, as many as there is room for, and holds the rest (01, "The
 -- program and one whole run": lines, the end of the input, refused setup).
 use Prim.Native.Nat.{ℕ, _+_, _-_}
 use mathlib.Core.Bool.{Bool, cond, _&&_, not}
@@ -48,7 +48,7 @@ feedRefusal bus memory ports text filled =
     cond (ltb (length text) filled) Refusal.wrongLength
     (cond (hasWrongBuffers memory ports) Refusal.wrongBuffers (cond (makesSense bus) Refusal.accepted Refusal.senseless))
 
--- ---- What a call tells, and what it leaves: `text` holds `filled` bytes, `out` is the place for the answers
+-- ---- What a call tells, and what it leaves: `text` holds `filled` bytes, `out` is the place for what is written
 
 -- a refused call does nothing
 abbrev pub refusedFed : ℕ → Session → ℕ → Fed

@@ -137,7 +137,7 @@ StartsAtZero = (k : ℕ) → (getD (freshWorld .memory) k 0 ≡ 0) × (getD (fre
 
 -- ---- Chunks
 
--- However the text is cut into chunks, and whatever room each call has: what was answered, with what the held text will be, is the output.
+-- However the text is cut into chunks, and whatever room each call has: what was written, with what the held text will give, is the output.
 abbrev pub AnyChunks : Type 0
 AnyChunks =
     (wanted : Wanted) (calls : List (ℕ × List ℕ))
@@ -157,7 +157,7 @@ CallsAnswer =
 
 -- ---- What the two functions do with their buffers
 
--- An accepted feed writes the answers to the front of `out`, and holds the rest at the front of `text`.
+-- An accepted feed writes answers or pictures to the front of `out`, and holds the rest at the front of `text`.
 abbrev pub FedInPlace : Type 0
 FedInPlace =
     (wanted : Wanted) (w : World) (text : List ℕ) (filled : ℕ) (out : List ℕ)
@@ -167,7 +167,7 @@ FedInPlace =
     × (worldLeft wanted w text filled out ≡ takes wanted (length out) w (take filled text) .state))
 
 -- A call that is given more text than there is, buffers of wrong lengths or a senseless bus says so, in this order, and does nothing: all text
--- stays held, and no answer is written.
+-- stays held, and nothing is written.
 abbrev pub FeedRefused : Type 0
 FeedRefused =
     (wanted : Wanted) (w : World) (text : List ℕ) (filled : ℕ) (out : List ℕ) (n : ℕ)
@@ -193,18 +193,18 @@ NothingToEnd =
     × ((finishedWorld wanted w text held out ≡ worldLeft wanted w text held out)
     × ((finishedText wanted w text held out ≡ textLeft wanted w text held out) × (finishedOut wanted w text held out ≡ outLeft wanted w text held out)))
 
--- After a feed there is room to read more, where the text is longer than what is held of an unended line, and an answer had room.
+-- After a feed there is room to read more, where the text is longer than what is held of an unended line, and the most for a line had room.
 abbrev pub RoomToRead : Type 0
 RoomToRead =
     (wanted : Wanted) (w : World) (text : List ℕ) (filled : ℕ) (out : List ℕ)
     → feedRefusal (w .session .bus) (w .memory) (w .ports) text filled ≡ Refusal.accepted
     → 1 + longest < length text → mostSaid wanted ≤ length out → fedOf wanted w text filled out .held < length text
 
--- Another answer has room exactly where its bytes are left.
+-- There is room for another line exactly where the most bytes that are written for one are left.
 abbrev pub RoomAsked : Type 0
 RoomAsked = (wanted : Wanted) (size written : ℕ) → (hasRoom wanted size written ≡ true) ↔ (written + mostSaid wanted ≤ size)
 
--- A feed that left room for another answer holds no line that has ended: only then is there reason to read more.
+-- A feed that left room for another line holds no line that has ended: only then is there reason to read more.
 abbrev pub NothingCompleteHeld : Type 0
 NothingCompleteHeld =
     (wanted : Wanted) (w : World) (text : List ℕ) (filled : ℕ) (out : List ℕ)
@@ -212,7 +212,7 @@ NothingCompleteHeld =
     → hasRoom wanted (length out) (fedOf wanted w text filled out .written) ≡ true
     → hasNewline (take (fedOf wanted w text filled out .held) (textLeft wanted w text filled out)) ≡ false
 
--- At the end of the input an accepted finish writes what the held line is answered, where it holds no newline and has room for one.
+-- At the end of the input an accepted finish writes what the held line gives, where it holds no newline and has room for one.
 abbrev pub FinishedInPlace : Type 0
 FinishedInPlace =
     (wanted : Wanted) (w : World) (text : List ℕ) (held : ℕ) (out : List ℕ)
@@ -221,7 +221,7 @@ FinishedInPlace =
     → take (finishedOf wanted w text held out .written) (finishedOut wanted w text held out) ≡ answers wanted w (textLines (take held text))
 
 -- So a whole run prints the output: calls on any chunks until no newline is held, and then a finish on a text that holds the rest and has
--- room for a newline, with room for an answer.
+-- room for a newline, with room for the most that is written for a line.
 abbrev pub WholeRun : Type 0
 WholeRun =
     (wanted : Wanted) (calls : List (ℕ × List ℕ)) (text out : List ℕ) → take (length (ranIn wanted calls .held)) text ≡ ranIn wanted calls .held

@@ -64,7 +64,7 @@ abbrev pub replyAs : Wanted → Answer → List ℕ
 replyAs Answers answer = answerLine answer
 replyAs Pictures answer = []
 
--- for an event: its picture, if it is accepted
+-- for an event: its pictures, if it is accepted
 abbrev pub eventAs : Wanted → Event → Answer → List ℕ
 eventAs Answers event answer = answerLine answer
 eventAs Pictures event answer = picturesOf event answer

@@ -1,7 +1,7 @@
 // What is told of lines taken off a text.
 use crate::state::Session;
 
-// The session after a call, how many bytes of text are held at its front, and how many bytes of answers were written.
+// The session after a call, how many bytes of text are held at its front, and how many bytes were written.
 pub struct Fed {
     // 0, or why nothing was done.
     pub refusal: u8,

@@ -19,6 +19,6 @@ pub struct Session {
 pub enum Wanted {
     // An answer line for each line.
     Answers,
-    // The picture of each accepted event.
+    // The pictures of each accepted event.
     Pictures,
 }

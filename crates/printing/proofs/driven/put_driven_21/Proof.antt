@@ -28,14 +28,14 @@ returns c =
     let first = second .before in
     let given = start seventh .args in
     let cyclic = given .m .cyclic in
-    let outward = given .m .outward in
+    let doutDriven = given .m .doutDriven in
     five .put-five .ensures
     ∙ five-same (given .out .now) (levelDigits + 5)
     refl
     refl
     (first .either .ensures ∙ by-one (λ c. digitOf (fourBits c c c c)) cyclic)
-    (fourth .either4 .ensures ∙ by-two (λ c o. digitOf (fourBits c c o o)) cyclic outward (second .either2 .ensures) (third .either3 .ensures))
-    (seventh .either7 .ensures ∙ by-two (λ c o. digitOf (fourBits c o o o)) cyclic outward (fifth .either5 .ensures) (sixth .either6 .ensures))
+    (fourth .either4 .ensures ∙ by-two (λ c o. digitOf (fourBits c c o o)) cyclic doutDriven (second .either2 .ensures) (third .either3 .ensures))
+    (seventh .either7 .ensures ∙ by-two (λ c o. digitOf (fourBits c o o o)) cyclic doutDriven (fifth .either5 .ensures) (sixth .either6 .ensures))
 
 pub put-driven-21-spec : {M : Type 1} → statement M
 put-driven-21-spec =

@@ -27,10 +27,10 @@ returns c =
     let first = second .before in
     let given = start fifth .args in
     let cyclic = given .m .cyclic in
-    let inward = given .m .inward in
+    let dinDriven = given .m .dinDriven in
     five .put-five .ensures
     ∙ five-same (given .out .now) (levelDigits + 10)
-    (third .either3 .ensures ∙ by-two (λ c i. digitOf (fourBits i i i c)) cyclic inward (first .either .ensures) (second .either2 .ensures))
+    (third .either3 .ensures ∙ by-two (λ c i. digitOf (fourBits i i i c)) cyclic dinDriven (first .either .ensures) (second .either2 .ensures))
     (fourth .either4 .ensures ∙ by-one (λ c. digitOf (fourBits c c c false)) cyclic)
     refl
     refl

@@ -31,14 +31,14 @@ returns c =
     let first = second .before in
     let given = start ninth .args in
     let cyclic = given .m .cyclic in
-    let outward = given .m .outward in
-    let inward = given .m .inward in
+    let doutDriven = given .m .doutDriven in
+    let dinDriven = given .m .dinDriven in
     five .put-five .ensures
     ∙ five-same (given .out .now) (levelDigits + 20)
     (first .either .ensures ∙ by-one (λ c. digitOf (fourBits c c c c)) cyclic)
-    (fourth .either4 .ensures ∙ by-two (λ c o. digitOf (fourBits c c c o)) cyclic outward (second .either2 .ensures) (third .either3 .ensures))
-    (seventh .either7 .ensures ∙ by-two (λ o i. digitOf (fourBits o o i i)) outward inward (fifth .either5 .ensures) (sixth .either6 .ensures))
-    (eighth .either8 .ensures ∙ by-one (λ i. digitOf (fourBits i i i false)) inward)
+    (fourth .either4 .ensures ∙ by-two (λ c o. digitOf (fourBits c c c o)) cyclic doutDriven (second .either2 .ensures) (third .either3 .ensures))
+    (seventh .either7 .ensures ∙ by-two (λ o i. digitOf (fourBits o o i i)) doutDriven dinDriven (fifth .either5 .ensures) (sixth .either6 .ensures))
+    (eighth .either8 .ensures ∙ by-one (λ i. digitOf (fourBits i i i false)) dinDriven)
     (ninth .either9 .ensures ∙ by-one (λ c. digitOf (fourBits c false false false)) cyclic)
 
 pub put-driven-81-spec : {M : Type 1} → statement M

@@ -30,7 +30,7 @@ returns : tie.Need-returns
 unfolding momentsOf
 returns c =
     let strobe = c .before .before .before .before in
-    rw (takes (strobe .before), strobe-is (strobe .before) true (strobe .if2 .taken)) (c .before .before .put-cycle .ensures)
+    rw (takes (strobe .before), strobe-is (strobe .before) true (strobe .if2 .taken)) (c .before .before .put-cycle-lines .ensures)
 
 returns-2 : tie.Need-returns-2
 unfolding momentsOf

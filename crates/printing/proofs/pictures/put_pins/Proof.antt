@@ -16,11 +16,11 @@ use Rattle.printing.proofs.pictures.put_pins.Tie as tie
 abbrev start : tie.Else1 → tie.Start
 start c = c .before .before .before .before
 
-still : (c : tie.Else1) → (start c .args .m .cyclic ≡ false) × ((start c .args .m .outward ≡ false) × (start c .args .m .inward ≡ false))
+still : (c : tie.Else1) → (start c .args .m .cyclic ≡ false) × ((start c .args .m .doutDriven ≡ false) × (start c .args .m .dinDriven ≡ false))
 still c =
     let m = start c .args .m in
-    let two = neither-of (m .cyclic || m .outward) (m .inward) (c .if1 .left) in
-    let one = neither-of (m .cyclic) (m .outward) (two .0) in
+    let two = neither-of (m .cyclic || m .doutDriven) (m .dinDriven) (c .if1 .left) in
+    let one = neither-of (m .cyclic) (m .doutDriven) (two .0) in
     (one .0, (one .1, two .1))
 
 -- ---- Places

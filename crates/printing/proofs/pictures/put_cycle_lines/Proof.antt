@@ -4,8 +4,8 @@ use borrow.Author.Needs.{needs}
 use Rattle.memory.specs.Halves.{oddHalf}
 use Rattle.pins.specs.Moments.{byteMoment, wordMoment}
 use Rattle.pins.proofs.DigitLaws.{one-put}
-use Rattle.printing.proofs.pictures.put_cycle.Statement.{statement}
-use Rattle.printing.proofs.pictures.put_cycle.Tie as tie
+use Rattle.printing.proofs.pictures.put_cycle_lines.Statement.{statement}
+use Rattle.printing.proofs.pictures.put_cycle_lines.Tie as tie
 
 -- ---- Places
 
@@ -46,8 +46,8 @@ returns-3 c =
     one-put (given .out .now) _ _ (byte .byte-moment .result) (at (oddHalf (given .answer .datum)))
     (byte .byte-moment .ensures ∙ ap at (byte .before .odd-half .ensures)) (c .before .before .put-one2 .ensures))
 
-pub put-cycle-spec : {M : Type 1} → statement M
-put-cycle-spec =
+pub put-cycle-lines-spec : {M : Type 1} → statement M
+put-cycle-lines-spec =
     tie.close
     (tie.spec
     (λ c κs. search needs)
