@@ -37,7 +37,7 @@ use Rattle.session.specs.declared.state.Stage.the-variants.{Awaiting, Ru
 use Rattle.session.specs.declared.state.Wanted.{Wanted}
 use Rattle.session.specs.declared.calls.TakenLines.{TakenLines}
 
--- what a function that takes lines owes: what it tells, and what it leaves of the place for the answers, of memory and of ports
+-- what a function that takes lines owes: what it tells, and what it leaves of the place that is written to, of memory and of ports
 abbrev pub TakenAs : Taken World → List ℕ → TakenLines → List ℕ → List ℕ → List ℕ → Type 0
 TakenAs t out lines out' m' p' =
     (lines ≡ linesTaken t) × ((out' ≡ sets out 0 (t .said)) × ((m' ≡ t .state .memory) × (p' ≡ t .state .ports)))
