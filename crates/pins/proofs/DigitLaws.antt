@@ -98,7 +98,11 @@ two-put place m n = behind (pictureLine m) (pictureLine n) place pictureLength (
 pub two-long : (m n : Moment) → length (linesFor (m ∷ n ∷ [])) ≡ pictureLength + pictureLength
 two-long m n = ap length (two-lines m n) ∙ omega (arith, length-append (pictureLine m) (pictureLine n), line-long m, line-long n)
 
--- ---- The lines of an event have room
+-- ---- The lines of an event: a refused one has none, and all have room
+
+pub no-picture : (event : Event) (answer : Answer) → (answer .refusal ≡ accepted → ⊥) → picturesOf event answer ≡ []
+unfolding momentsOf linesFor
+no-picture event answer refused = rw (ne-eqb (answer .refusal) accepted refused) refl
 
 -- some moments have room for their lines
 record Roomy (moments : List Moment) : Type 0 where
@@ -128,10 +132,6 @@ pictures-fit event answer = all .fits
         (either-roomy (isSplit event answer) (two-roomy _ _) (either-roomy (Kind.isWord (event .kind)) (one-roomy _) (one-roomy _)))
         (one-roomy _))
         none-roomy
-
-pub no-picture : (event : Event) (answer : Answer) → (answer .refusal ≡ accepted → ⊥) → picturesOf event answer ≡ []
-unfolding momentsOf linesFor
-no-picture event answer refused = rw (ne-eqb (answer .refusal) accepted refused) refl
 
 -- where there is room
 pub pictured-fits : (event : Event) (answer : Answer) (place : List ℕ) → mostPictured ≤ length place
