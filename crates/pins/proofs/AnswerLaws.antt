@@ -1,8 +1,7 @@
 -- What is known of an accepted event's answer, for its picture.
-use mathlib.Core.Path.{_≡_, refl, sym, ap, ap₂, subst, _∙_}
+use mathlib.Core.Path.{_≡_, refl, sym, ap, _∙_}
 use mathlib.Core.Logic.{_⊎_, inl, inr, ⊎-elim}
 use mathlib.Core.Bool.{Bool, true, false, not, _&&_, _||_}
-use mathlib.Core.List.{List}
 use Prim.Native.Nat.{ℕ, _+_, _%_, _<_, _^_}
 use native.Mathlib.Omega.{arith}
 use lib.Dec.{eqb, leb, ltb}
@@ -15,15 +14,14 @@ use Rattle.words.proofs.BelowLaws.{all-at, same-below, same-tests-below}
 use Rattle.lines.proofs.LevelLaws.{lines-in-range}
 use Rattle.phases.specs.Phase as Phase
 use Rattle.phases.specs.Kind as Kind
-use Rattle.phases.specs.Signal.{sXTRQ, SIXTN, signalsIn}
-use Rattle.phases.specs.Status.{sOUT, statusOf}
+use Rattle.phases.specs.Signal.{sXTRQ, signalsIn}
+use Rattle.phases.specs.Status.{statusOf}
 use Rattle.phases.specs.Control.{isReading, isWriting}
 use Rattle.bus.specs.State.{arbitrationOf, linesOf}
-use Rattle.bus.specs.Sense.{makesSense}
 use Rattle.bus.specs.Promises.{Sensible}
 use Rattle.bus.specs.declared.state.Bus.{Bus}
 use Rattle.bus.proofs.SenseLaws.{sense-means}
-use Rattle.judgement.specs.Table.{isCycle, rowOf}
+use Rattle.judgement.specs.Table.{isCycle}
 use Rattle.judgement.specs.Refusals.{pageAt}
 use Rattle.judgement.specs.declared.event.Event.{Event}
 use Rattle.judgement.proofs.TableLaws.{cycle-row, cycle-kinds}
@@ -36,7 +34,6 @@ use Rattle.events.proofs.TakenLaws.{leaves-taken, answers-taken, right-buffers,
 use Rattle.events.proofs.Refused.{accepted-is-well-formed, answers-refusal}
 use Rattle.events.proofs.Stays.{sense-kept-by-events, cycles-keep-the-bus}
 use Rattle.pins.specs.Moments.{momentOf, withoutRequest, hasStrobe}
-use Rattle.pins.specs.declared.moments.Moment.{Moment}
 use Rattle.pins.proofs.MomentLaws.{Word, Fits}
 
 -- the lines of a state that makes sense show four bits

@@ -16,7 +16,8 @@ use Rattle.judgement.specs.declared.event.Event.{Event}
 use Rattle.events.specs.declared.answers.Answer.{Answer}
 use Rattle.text.specs.Newlines.{newline}
 use Rattle.pins.specs.Moments.{isSplit, hasStrobe, momentsOf}
-use Rattle.pins.specs.Picture.{fourBits, levelDigits, pictureDigits, levelsOf, drivenOf, pictureOf, pictureLine, pictureLength, mostPictured, picturesOf, linesFor, pictured, bytesPictured}
+use Rattle.pins.specs.Picture.{fourBits, levelDigits, pictureDigits, levelsOf, drivenOf, pictureOf}
+use Rattle.pins.specs.Picture.{pictureLine, pictureLength, mostPictured, picturesOf, linesFor, pictured, bytesPictured}
 use Rattle.pins.specs.declared.moments.Moment.{Moment}
 
 pub four-bits-small : (a b c d : Bool) → fourBits a b c d < 16

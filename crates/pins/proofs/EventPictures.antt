@@ -2,8 +2,8 @@
 use mathlib.Core.Path.{_≡_, refl, sym, ap, subst, _∙_}
 use mathlib.Core.Logic.{_⊎_, inl, inr, ⊎-elim}
 use mathlib.Core.Bool.{Bool, true, false, cond, not, _&&_, _||_, true≢false, false≢true}
-use mathlib.Core.List.{List, [], _∷_, _++_}
-use Prim.Native.Nat.{ℕ, suc, _+_, _-_, _*_, _/_, _%_, _^_, _<_, _≤_}
+use mathlib.Core.List.{List, [], _∷_}
+use Prim.Native.Nat.{ℕ, _+_, _-_, _*_, _^_, _<_}
 use native.Mathlib.Decide.{decLt}
 use native.Mathlib.Nat.{mod-eq-of-lt}
 use native.Mathlib.Omega.{arith}
@@ -12,12 +12,11 @@ use lib.ListN.{length, getD, set, length-set, List·getD-append}
 use lib.Seq.{getD-append-add}
 use borrow.Author.Tests.{eq-eqb, ne-eqb}
 use Rattle.words.specs.Below.{listBelow}
-use Rattle.words.specs.Among.{everyListed, beside}
-use Rattle.words.proofs.TestLaws.{true-or-false, both-of, either-of}
+use Rattle.words.specs.Among.{beside}
+use Rattle.words.proofs.TestLaws.{true-or-false}
 use Rattle.words.proofs.BelowLaws.{list-below-at}
 use Rattle.words.proofs.ListLaws.{every-of, getD-set}
-use Rattle.text.specs.Digits.{isDigit, isDigits, digitOf}
-use Rattle.text.specs.Newlines.{newline}
+use Rattle.text.specs.Digits.{isDigit}
 use Rattle.text.proofs.ReadBack.{digits-read-back}
 use Rattle.phases.specs.Kind as Kind
 use Rattle.phases.specs.Signal.{SIXTN, sXTRQ, isOn}
@@ -32,7 +31,7 @@ use Rattle.events.specs.Promises.{Moves, wordIn, codeThere}
 use Rattle.events.specs.declared.answers.Answer.{Answer}
 use Rattle.events.proofs.Refused.{answers-refusal, accepted-is-well-formed}
 use Rattle.events.proofs.EachCycle.{byte-read-does, opcode-fetch-does, byte-write-does, word-read-does, word-write-does, input-does, output-does}
-use Rattle.pins.specs.BusLine.{isDriven, isTrue}
+use Rattle.pins.specs.BusLine.{isDriven}
 use Rattle.pins.specs.Pin.{Pin, pinAt, isHigh}
 use Rattle.pins.specs.Picture.{fourBits, pinsDigit, levelDigits, levelsOf, drivenOf, pictureOf, linesFor}
 use Rattle.pins.specs.Moments.{idleMoment, byteMoment, wordMoment, evenMoment, oddOfPair, withoutRequest, hasStrobe, cycleMoments, momentsOf}
@@ -40,10 +39,11 @@ use Rattle.pins.specs.Promises.{FiftyDigits, PinByRule, UndrivenIsLow, A
 use Rattle.pins.specs.Promises.{IdlePictured, RefusedUnpictured}
 use Rattle.pins.specs.Promises.{InCycle, OnItsPins, OnBoth, Bytes, BytePictured, WordPictured, SplitPictured}
 use Rattle.pins.specs.declared.moments.Moment.{Moment}
-use Rattle.pins.proofs.DigitLaws.{four-bits-small, levels-long, driven-long, picture-long, line-long, one-line, two-lines, no-picture}
+use Rattle.pins.proofs.DigitLaws.{four-bits-small, levels-long, picture-long, line-long, one-line, two-lines, no-picture}
 use Rattle.pins.proofs.PinLaws.{high-is, driven-is, low-undriven}
 use Rattle.pins.proofs.MomentLaws.{Fits, address-on, disabling-on, bus-shown, no-cycle, in-cycle, on-do, on-di, on-both}
-use Rattle.pins.proofs.AnswerLaws.{quiet-fits, word-strobe, word-cycles, byte-cycles, one-way, WordLies, word-lies, strobe-cycle, number, kind-known, fits-as, no-word, eight-word, sixteen-word, no-status, address-small}
+use Rattle.pins.proofs.AnswerLaws.{quiet-fits, word-strobe, word-cycles, byte-cycles, one-way, word-lies, strobe-cycle}
+use Rattle.pins.proofs.AnswerLaws.{number, kind-known, fits-as, no-word, eight-word, sixteen-word, no-status, address-small}
 
 -- ---- Every line
 

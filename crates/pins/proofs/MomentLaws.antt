@@ -3,7 +3,7 @@ use mathlib.Core.Path.{_≡_, refl, sym, ap, ap₂, subst, _∙_}
 use mathlib.Core.Logic.{_⊎_, inl, ⊎-elim}
 use mathlib.Core.Bool.{Bool, true, false, cond, not, _&&_, _||_}
 use mathlib.Core.List.{List, [], _∷_}
-use Prim.Native.Nat.{ℕ, suc, pow·suc, _+_, _-_, _*_, _/_, _%_, _^_, _<_, _≤_}
+use Prim.Native.Nat.{ℕ, suc, pow·suc, _+_, _-_, _*_, _/_, _%_, _^_, _<_}
 use native.Mathlib.Omega.{arith}
 use lib.Dec.{eqb, leb}
 use lib.ListN.{length, getD}
@@ -14,7 +14,6 @@ use Rattle.words.specs.Among.{isAmong, everyListed, beside}
 use Rattle.words.proofs.TestLaws.{true-or-false, both-of, neither-of}
 use Rattle.words.proofs.BitLaws.{shr-suc}
 use Rattle.words.proofs.BelowLaws.{all-at, all-same, same-below}
-use Rattle.words.proofs.ListLaws.{every-at}
 use Rattle.phases.specs.Phase as Phase
 use Rattle.phases.specs.Signal.{HOLD, pHLDA, ADSB, SDSB, DODSB, CDSB, SIXTN, sXTRQ, isOn, signalsIn}
 use Rattle.phases.specs.Status.{sMEMR, sM1, sINP, sOUT, sWO, statusOf}
@@ -24,7 +23,7 @@ use Rattle.pins.specs.Pin.{pinTable, pinAt, isHigh}
 use Rattle.pins.specs.Moments.{hasStrobe}
 use Rattle.pins.specs.Picture.{pictureOf}
 use Rattle.pins.specs.ReadAgain.{highOn, drivenOn}
-use Rattle.pins.specs.Promises.{addressPins, outPins, inPins, priorityPins, statusPins, alwaysPins, neverPins, numberOn, allDriven, noneDriven}
+use Rattle.pins.specs.Promises.{addressPins, outPins, inPins, priorityPins, statusPins, alwaysPins, neverPins, numberOn}
 use Rattle.pins.specs.Promises.{BusShown, NoCycle, InCycle, OnDO, OnDI, OnBoth}
 use Rattle.pins.specs.declared.moments.Moment.{Moment}
 use Rattle.pins.proofs.PinLaws.{high-is, driven-is, low-undriven}

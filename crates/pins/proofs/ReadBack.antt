@@ -1,5 +1,5 @@
 -- A picture read again tells the phase, the signals and the priority lines of its moment.
-use mathlib.Core.Path.{_≡_, refl, sym, ap, ap₂, subst, _∙_}
+use mathlib.Core.Path.{_≡_, refl, sym, ap, ap₂, _∙_}
 use mathlib.Core.Logic.{_⊎_, inl, inr, ⊎-elim}
 use mathlib.Core.Bool.{Bool, true, false, cond, not, _&&_, _||_, true≢false}
 use mathlib.Core.List.{List, [], _∷_, _++_, append-assoc}
@@ -28,9 +28,8 @@ use Rattle.events.specs.Promises.{codeThere}
 use Rattle.events.proofs.EachCycle.{word-read-does, word-write-does}
 use Rattle.text.specs.Newlines.{newline}
 use Rattle.pins.specs.BusLine.{isDriven, isTrue}
-use Rattle.pins.specs.Pin.{pinTable, pinAt, isHigh}
-use Rattle.events.specs.declared.answers.Answer.{Answer}
-use Rattle.pins.specs.Moments.{idleMoment, byteMoment, wordMoment, evenMoment, oddMoment, isSplit, cycleMoments}
+use Rattle.pins.specs.Pin.{pinTable, pinAt}
+use Rattle.pins.specs.Moments.{idleMoment, byteMoment, wordMoment, evenMoment, oddMoment}
 use Rattle.pins.specs.Picture.{pictureOf, linesFor}
 use Rattle.pins.specs.ReadAgain.{trueOn, signalsOn, priorityLinesOn, phaseWith, seen, pictureIn}
 use Rattle.pins.specs.Promises.{ReadsBack, AlikePictured, BadPictureRefused, pictures}

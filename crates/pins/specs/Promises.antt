@@ -1,7 +1,6 @@
 -- What is promised of pictures (02, CR 1). The proof of each stands in proofs/ under its name in lower case, with hyphens.
 use Prim.Native.Nat.{ℕ, _+_, _-_, _*_, _<_, _≤_}
 use mathlib.Core.Path.{_≡_}
-use mathlib.Core.Logic.{_⊎_}
 use mathlib.Core.Bool.{Bool, true, false, cond, not, _&&_}
 use mathlib.Core.List.{List, [], _∷_, _++_}
 use lib.ListN.{length, getD, take}
@@ -15,7 +14,6 @@ use Rattle.judgement.specs.declared.event.Event.{Event}
 use Rattle.events.specs.Machine.{Machine}
 use Rattle.events.specs.Step.{refusalIn, after, answerTo}
 use Rattle.events.specs.Promises.{codeThere}
-use Rattle.events.specs.declared.answers.Answer.{Answer}
 use Rattle.text.specs.Digits.{isDigits}
 use Rattle.text.specs.Newlines.{newline}
 use Rattle.pins.specs.BusLine.{isDriven}

@@ -21,7 +21,8 @@ returns c =
     let second = third .before in
     let first = second .before in
     five .put-five .ensures
-    ∙ five-same (start fourth .args .out .now) 10 (first .pin-digit .ensures) (second .pin-digit2 .ensures) refl (third .pin-digit3 .ensures) (fourth .pin-digit4 .ensures)
+    ∙ five-same (start fourth .args .out .now) 10 (first .pin-digit .ensures) (second .pin-digit2 .ensures) refl (third .pin-digit3 .ensures)
+    (fourth .pin-digit4 .ensures)
 
 pub put-levels-41-spec : {M : Type 1} → statement M
 put-levels-41-spec =

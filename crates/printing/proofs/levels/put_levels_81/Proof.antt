@@ -22,7 +22,8 @@ returns c =
     let second = third .before in
     let first = second .before in
     five .put-five .ensures
-    ∙ five-same (start fifth .args .out .now) 20 (first .pin-digit .ensures) (second .pin-digit2 .ensures) (third .pin-digit3 .ensures) (fourth .pin-digit4 .ensures) (fifth .pin-digit5 .ensures)
+    ∙ five-same (start fifth .args .out .now) 20 (first .pin-digit .ensures) (second .pin-digit2 .ensures) (third .pin-digit3 .ensures)
+    (fourth .pin-digit4 .ensures) (fifth .pin-digit5 .ensures)
 
 pub put-levels-81-spec : {M : Type 1} → statement M
 put-levels-81-spec =
