@@ -30,7 +30,7 @@ extern "C" {
 #define S100_PORTS_SIZE 256
 #define S100_PICTURE_DIGITS 50 /* of a picture, which a newline ends */
 #define S100_PICTURES_SIZE 102 /* two pictures with their newlines, the most that an event has */
-#define S100_SEEN_SIZE 3
+#define S100_SEEN_SIZE 4
 
 /* ---- The bytes of a state. A field of two bytes has its high byte first; in a set of cards, card n is the bit of weight 1 << n. Any 38 bytes
  * are a state, though not all of them make sense. */
@@ -87,11 +87,12 @@ extern "C" {
 #define S100_SOUT 0x08
 #define S100_SWO 0x10
 
-/* ---- The bytes of what is read from a picture. */
+/* ---- The bytes of what is read from a picture. Behind a refusal all are 0, but the column behind S100_REFUSED_WRONG_CHARACTER. */
 
 #define S100_SEEN_PHASE_AT 0   /* 1 byte: the phase that has these signals, or S100_NO_PHASE */
 #define S100_SEEN_SIGNALS_AT 1 /* 1 byte, weighed as in an answer */
 #define S100_SEEN_LINES_AT 2   /* 1 byte: what the priority lines show */
+#define S100_SEEN_COLUMN_AT 3  /* 1 byte: where the first wrong character of a refused line is, counted from 1, and else 0 */
 
 #define S100_NO_PHASE 0xFF
 
@@ -119,21 +120,23 @@ extern "C" {
 #define S100_PERMANENT_MASTER 0x10
 
 /* ---- Answers: 0, or why the call was refused; of several reasons the one with the lowest number. Setup answers 00 or 0B, step 00 to 0A,
- * settle 00, 02, 03 or 05 to 08, and the reading of a picture 00 or 0C. */
+ * settle 00, 02, 03 or 05 to 08, and the reading of a picture 00, 0C or 0D. Of a line 0C is judged before anything else about it, and 0D right
+ * after it: the text program gives both before 0B. */
 
 #define S100_ACCEPTED 0x00
-#define S100_REFUSED_WRONG_BUFFERS 0x01 /* memory or ports of a wrong length */
-#define S100_REFUSED_SENSELESS 0x02     /* a state that makes no sense */
-#define S100_REFUSED_MALFORMED 0x03     /* no such kind, a field that the event can't have, a number in a settle list that is no card's */
-#define S100_REFUSED_NAMES_NOBODY 0x04  /* a request by no card */
-#define S100_REFUSED_NOT_FITTED 0x05    /* a card is named that isn't fitted */
-#define S100_REFUSED_WRONG_PHASE 0x06   /* not in this phase */
-#define S100_REFUSED_NOT_ITS_TURN 0x07  /* not a contender, not the granted card, or not the master of this phase */
-#define S100_REFUSED_UNSETTLED 0x08     /* the priority lines aren't settled, in settle not even after the whole list */
-#define S100_REFUSED_ODD_WORD 0x09      /* a word at an odd address */
-#define S100_REFUSED_ABSENT 0x0A        /* no memory at this address, or no such port */
-#define S100_REFUSED_BAD_PAGE 0x0B      /* a page code that setup doesn't know */
-#define S100_REFUSED_BAD_LINE 0x0C      /* a line that isn't the right number of digits 0 to 9 and A to F */
+#define S100_REFUSED_WRONG_BUFFERS 0x01     /* memory or ports of a wrong length */
+#define S100_REFUSED_SENSELESS 0x02         /* a state that makes no sense */
+#define S100_REFUSED_MALFORMED 0x03         /* no such kind, a field that the event can't have, a number in a settle list that is no card's */
+#define S100_REFUSED_NAMES_NOBODY 0x04      /* a request by no card */
+#define S100_REFUSED_NOT_FITTED 0x05        /* a card is named that isn't fitted */
+#define S100_REFUSED_WRONG_PHASE 0x06       /* not in this phase */
+#define S100_REFUSED_NOT_ITS_TURN 0x07      /* not a contender, not the granted card, or not the master of this phase */
+#define S100_REFUSED_UNSETTLED 0x08         /* the priority lines aren't settled, in settle not even after the whole list */
+#define S100_REFUSED_ODD_WORD 0x09          /* a word at an odd address */
+#define S100_REFUSED_ABSENT 0x0A            /* no memory at this address, or no such port */
+#define S100_REFUSED_BAD_PAGE 0x0B          /* a page code that setup doesn't know */
+#define S100_REFUSED_WRONG_LINE_LENGTH 0x0C /* a line that doesn't have the right number of bytes, whatever they are */
+#define S100_REFUSED_WRONG_CHARACTER 0x0D   /* a line of the right length with a byte that is none of the digits 0 to 9 and A to F */
 
 /* The library's own, which no refusal has and which comes before all of them: a state, pages, an answer, or a place for what is written, of a
  * wrong length. */
@@ -171,9 +174,10 @@ uint8_t s100_settle(uint8_t *state, size_t state_length, const uint8_t *cards, s
  * S100_PICTURES_SIZE, nothing is written, and S100_WRONG_LENGTH is returned. */
 uint8_t s100_picture(uint8_t kind, uint32_t address, const uint8_t *answer, size_t answer_length, uint8_t *lines, size_t lines_length);
 
-/* Reads a picture, without its newline: phase, signals and priority lines, by the pins that are driven. Any 50 digits are read; any
- * other line is refused as S100_REFUSED_BAD_LINE, and then, as with a place of a wrong length, which is S100_WRONG_LENGTH, nothing is
- * written. */
+/* Reads a picture, without its newline: phase, signals and priority lines, by the pins that are driven. Any 50 digits are read, and the column
+ * is then 0. A line of another length is refused as S100_REFUSED_WRONG_LINE_LENGTH: all four bytes are then 0. One of 50 bytes that aren't all
+ * digits is refused as S100_REFUSED_WRONG_CHARACTER: the column of the first such byte is then written, counted from 1, and 0 in the other three.
+ * With a place of a wrong length nothing is written, and the answer is S100_WRONG_LENGTH, whatever the line. */
 uint8_t s100_read_picture(const uint8_t *line, size_t line_length, uint8_t *seen, size_t seen_length);
 
 /* Fields can be read of any state, also of one that makes no sense; where there is no such field it is S100_NO_FIELD. */

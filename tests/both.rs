@@ -14,12 +14,13 @@ const EXCESS: usize = 0x1_0000;
 
 pub type State = [u8; STATE_SIZE];
 
+/// A picture is read into a place that is filled afresh for it, or else has what the reading before left there.
 pub enum Call {
     Setup { fitted: u16, pages: Vec<u8> },
     Step(Event),
     Settle { cards: Vec<u8> },
     Picture { kind: u8, address: u32, answer: Vec<u8> },
-    ReadPicture { line: Vec<u8> },
+    ReadPicture { line: Vec<u8>, afresh: bool },
     Field(Field),
 }
 
@@ -96,7 +97,7 @@ pub struct Side {
     ports: Buffer,
     pub answer: Buffer,
     pub lines: Buffer,
-    seen: Buffer,
+    pub seen: Buffer,
     list: Buffer,
     looks: [usize; 3],
 }
@@ -113,11 +114,12 @@ impl Side {
     }
 
     /// Fills what the call may or may not write with bytes that it can't know, so that both a write too many and one too few show. A step's
-    /// answer outlasts its pictures.
+    /// answer outlasts its pictures. The bytes for a reading are never 0, nor any column: those have to be written.
     fn prepare(&mut self, call: &Call, lent: Lengths, garbage: u64) {
         match call {
             Call::Picture { .. } => self.lines.fill(garbage as u8, lent.lines),
-            Call::ReadPicture { .. } => self.seen.fill(garbage as u8, lent.seen),
+            Call::ReadPicture { afresh: true, .. } => self.seen.fill(garbage as u8 | 0x80, lent.seen),
+            Call::ReadPicture { afresh: false, .. } => {}
             _ => {
                 self.answer.fill(garbage as u8, lent.answer);
                 self.looks = [garbage as usize; 3];
@@ -127,7 +129,7 @@ impl Side {
             Call::Setup { pages, .. } => pages,
             Call::Settle { cards } => cards,
             Call::Picture { answer, .. } => answer,
-            Call::ReadPicture { line } => line,
+            Call::ReadPicture { line, .. } => line,
             Call::Step(_) | Call::Field(_) => &[],
         };
         self.list.hold(list, garbage as u8);
@@ -238,8 +240,8 @@ impl Both {
         let found = self.library.through_face(&call, lent);
         let expected = self.model.by_model(&call, lent);
         self.tally.note(&call, lent, state[PHASE_AT], found);
-        if let (Call::ReadPicture { .. }, 0) = (&call, found) {
-            self.tally.note_seen(self.library.seen.bytes()[0]);
+        if let Call::ReadPicture { line, .. } = &call {
+            self.tally.note_reading(line, found, self.library.seen.bytes());
         }
         let agrees = found == expected && self.library.agrees(&self.model, &call, lent);
         self.last = Some(Made { call, lent, state });
@@ -262,7 +264,7 @@ impl Both {
             self.tally.note_shown(kind, phase, cycles);
             self.expect(written == 51 * u32::from(cycles.max(1)), "a picture has a line for each cycle, and one if there is none");
             for (seen, signals) in read.into_iter().zip([signals, signals & 0x7F]) {
-                self.expect(seen == [phase, signals, lines], "a picture reads back to the answer's phase, signals and lines");
+                self.expect(seen == [phase, signals, lines, 0], "a picture reads back to the answer's phase, signals and lines");
             }
         }
     }
@@ -275,7 +277,7 @@ impl Both {
         }
         let text = self.library.lines.bytes()[..written as usize].to_vec();
         for line in text.chunks(PICTURE_DIGITS + 1).map(|ended| &ended[..PICTURE_DIGITS]) {
-            if self.compare(Call::ReadPicture { line: line.to_vec() }, lent) == 0 {
+            if self.compare(Call::ReadPicture { line: line.to_vec(), afresh: true }, lent) == 0 {
                 read.push(self.library.seen.bytes().try_into().expect("all that is read"));
             }
         }
@@ -304,8 +306,10 @@ impl Both {
     /// What a rule asks of the call just made, beyond that the two agree.
     pub fn expect(&self, holds: bool, rule: &str) {
         if !holds {
-            let (state, answer, looks) = (self.library.state.bytes(), self.library.answer.bytes(), self.library.looks());
-            self.fail(rule, &format!("that isn't so of\nstate: {}\nanswer: {}\nlooks: {looks}", hex(state), hex(answer)));
+            let Side { state, answer, seen, .. } = &self.library;
+            let [state, answer, seen] = [state, answer, seen].map(|buffer| hex(buffer.bytes()));
+            let looks = self.library.looks();
+            self.fail(rule, &format!("that isn't so of\nstate: {state}\nanswer: {answer}\nseen: {seen}\nlooks: {looks}"));
         }
     }
 
@@ -351,7 +355,10 @@ fn described(call: &Call) -> String {
         }
         Call::Settle { cards } => format!("settle: {} cards {}", cards.len(), hex(cards)),
         Call::Picture { kind, address, answer } => format!("picture: kind {kind:02X}, address {address:06X}, answer {}", hex(answer)),
-        Call::ReadPicture { line } => format!("read_picture: {} bytes {}, \"{}\"", line.len(), hex(line), line.escape_ascii()),
+        Call::ReadPicture { line, afresh } => {
+            let place = if *afresh { "a place filled afresh" } else { "the place as it was left" };
+            format!("read_picture, into {place}: {} bytes {}, \"{}\"", line.len(), hex(line), line.escape_ascii())
+        }
         Call::Field(field) => format!("field: {field:?}"),
     }
 }

@@ -1,5 +1,5 @@
-//! Compares the proved library, called through its C face, with an independent model of the rules in 01 and of the pictures in 02, CR 1,
-//! and tells what was reached.
+//! Compares the proved library, called through its C face, with an independent model of the rules in 01, of the pictures in 02, CR 1, and
+//! of the refused lines in 02, CR 2, and tells what was reached.
 //!
 //! Usage: compare [CALLS [SEED]], where CALLS is the least number of random calls. It exits 0 only if the two agreed in everything and
 //! everything was reached that ought to be.
@@ -8,11 +8,12 @@ mod both;
 mod draw;
 mod face;
 mod model;
+mod reading;
 mod rounds;
 mod tally;
 
 use both::{Both, Call, Lengths, State, RIGHT};
-use draw::{Chance, DIGITS};
+use draw::Chance;
 use face::{Event, Field, ANSWER_SIZE, PICTURES_SIZE, PICTURE_DIGITS, SEEN_SIZE};
 use face::{GRANTED_AT, NOBODY, PAGES_AT, PAGES_SIZE, PERMANENT_MASTER, STATE_SIZE};
 use model::Refusal;
@@ -35,7 +36,7 @@ fn single(both: &mut Both, chance: &mut Chance) {
         1 | 2 => Call::Settle { cards: draw::list(chance, &state) },
         3 => Call::Field(draw::field(chance)),
         4 => picture(chance),
-        5 => Call::ReadPicture { line: draw::line(chance) },
+        5 => Call::ReadPicture { line: draw::line(chance), afresh: chance.one_in(2) },
         _ => Call::Step(draw::event(chance, &state)),
     };
     both.make(call, draw::lengths(chance));
@@ -168,52 +169,8 @@ fn kinds_pictured(both: &mut Both, chance: &mut Chance) {
     }
 }
 
-fn read(both: &mut Both, line: Vec<u8>) -> u32 {
-    both.make(Call::ReadPicture { line }, RIGHT)
-}
-
-/// Pictures of events in each phase, with one bit after the other turned over: levels of undriven pins, and pins that nobody drives, too.
-fn pins_turned_over(both: &mut Both, chance: &mut Chance, cases: usize) {
-    for case in 0..6 * cases {
-        let state = draw::sensible_in(chance, (case % 6) as u8);
-        both.place(&state);
-        if both.step(draw::next_event(chance, &state)) != 0 {
-            continue;
-        }
-        let printed = both.library.lines.bytes()[..PICTURE_DIGITS].to_vec();
-        for (column, weight) in (0..PICTURE_DIGITS).flat_map(|column| [8, 4, 2, 1].map(|weight| (column, weight))) {
-            let mut line = printed.clone();
-            let digit = char::from(line[column]).to_digit(16).expect("a digit");
-            line[column] = DIGITS[(digit ^ weight) as usize];
-            let number = read(both, line);
-            both.expect(number == 0, "any fifty digits are read");
-        }
-    }
-}
-
-/// Each byte in each column of a line, and lines of other lengths.
-fn bad_lines(both: &mut Both, chance: &mut Chance) {
-    for column in 0..PICTURE_DIGITS {
-        for byte in 0..=255 {
-            let mut line = draw::digits(chance, PICTURE_DIGITS);
-            line[column] = byte;
-            let number = read(both, line);
-            let right = if DIGITS.contains(&byte) { 0 } else { Refusal::BadLine as u32 };
-            both.expect(number == right, "a line is read unless a character isn't one of the sixteen");
-        }
-    }
-    for length in [0, 1, 25, 49, 51, 52, 100, 102, PICTURE_DIGITS + 0x100, PICTURE_DIGITS + 0x1_0000] {
-        let line = draw::digits(chance, length);
-        let number = read(both, line);
-        both.expect(number == Refusal::BadLine as u32, "a line of another length isn't read");
-    }
-    let with_newline = [draw::digits(chance, PICTURE_DIGITS), b"\n".to_vec()].concat();
-    let number = read(both, with_newline);
-    both.expect(number == Refusal::BadLine as u32, "a line is read without its newline");
-}
-
-/// Each buffer of a picture and of its reading alone of a wrong length, which comes before refused events and bad lines. Room for one line
-/// is wrong as well, also where there is no second.
+/// Each buffer of a picture and of its reading alone of a wrong length, which comes before refused events and wrong lines. Room for one
+/// line is wrong as well, also where there is no second.
 fn wrong_lengths_of_pictures(both: &mut Both, chance: &mut Chance, cases: usize) {
     for case in 0..cases {
         let (kind, address) = (chance.between(0x01, 0x0F), draw::memory_address(chance));
@@ -229,8 +186,12 @@ fn wrong_lengths_of_pictures(both: &mut Both, chance: &mut Chance, cases: usize)
         for lines in draw::wrong_lengths(PICTURES_SIZE).into_iter().chain([1, PICTURE_DIGITS, PICTURE_DIGITS + 1]) {
             calls.push((picture(&answer), Lengths { lines, ..RIGHT }));
         }
-        for seen in draw::wrong_lengths(SEEN_SIZE) {
-            calls.push((Call::ReadPicture { line: draw::line(chance) }, Lengths { seen, ..RIGHT }));
+        for seen in draw::wrong_lengths(SEEN_SIZE).into_iter().chain([1, 2]) {
+            let mut wrong = draw::digits(chance, PICTURE_DIGITS);
+            wrong[chance.below(PICTURE_DIGITS)] = draw::wrong_character(chance);
+            for line in [draw::digits(chance, PICTURE_DIGITS), wrong, draw::digits(chance, PICTURE_DIGITS - 1)] {
+                calls.push((Call::ReadPicture { line, afresh: true }, Lengths { seen, ..RIGHT }));
+            }
         }
         for (call, lent) in calls {
             let number = both.make(call, lent);
@@ -267,6 +228,16 @@ fn words(both: &mut Both, chance: &mut Chance, cases: usize) {
         let sixteen_bit = word_over(both, 2, write, before);
         both.expect(sixteen_bit == (halves, halves, 1), "over a sixteen-bit page the high half goes to the even address, in one cycle");
     }
+}
+
+fn lines_to_read(both: &mut Both, chance: &mut Chance) {
+    reading::pins_turned_over(both, chance, 30);
+    reading::characters(both, chance);
+    reading::several_wrong_characters(both, chance, 4);
+    reading::long_characters(both, chance);
+    reading::wrong_line_lengths(both, chance);
+    reading::one_byte_more(both, chance);
+    reading::into_one_place(both, chance, 20);
 }
 
 /// Tells how many sets of contenders were taken through four rounds, and returns what is wrong about these numbers.
@@ -316,9 +287,8 @@ fn main() {
     words(&mut both, &mut chance, 5000);
     wrong_lengths(&mut both, &mut chance, 300);
     kinds_pictured(&mut both, &mut chance);
-    pins_turned_over(&mut both, &mut chance, 30);
-    bad_lines(&mut both, &mut chance);
     wrong_lengths_of_pictures(&mut both, &mut chance, 60);
+    lines_to_read(&mut both, &mut chance);
     let mut faults = arbitration(&mut both, &mut chance);
     both.end();
 

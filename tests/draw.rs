@@ -451,16 +451,28 @@ pub fn digits(chance: &mut Chance, number: usize) -> Vec<u8> {
     (0..number).map(|_| chance.pick(DIGITS)).collect()
 }
 
-/// A line to read: of any levels, with any pins driven or all of them; now and then with a wrong character or of a wrong length.
+/// A byte that is none of the digits, often one near them: beside them, a small letter, a blank, or a digit with its top bit set.
+pub fn wrong_character(chance: &mut Chance) -> u8 {
+    loop {
+        let (any, near) = (chance.next() as u8, chance.pick(b"/:@G`abefgO \t\r\n\0\xB0\xB9\xC1\xC6\xFF"));
+        let byte = chance.pick(&[any, near]);
+        if !DIGITS.contains(&byte) {
+            return byte;
+        }
+    }
+}
+
+/// A line to read: of any levels, with any pins driven or all of them; now and then with wrong characters or of a wrong length.
 pub fn line(chance: &mut Chance) -> Vec<u8> {
     let number = if chance.one_in(8) { wrong_length(chance, PICTURE_DIGITS) } else { PICTURE_DIGITS };
     let mut line = digits(chance, number);
     if chance.one_in(3) && number == PICTURE_DIGITS {
         line[PICTURE_DIGITS / 2..].fill(b'F');
     }
-    if chance.one_in(8) && number > 0 {
-        let any = chance.next() as u8;
-        line[chance.below(number)] = chance.pick(&[any, b'a', b'f', b'G', b'g', b'/', b':', b'@', b' ', b'\n', 0x00, 0xB0, 0xC1, 0xFF]);
+    if chance.one_in(6) && number > 0 {
+        for _ in 0..chance.pick(&[1, 1, 2, 3, 50]) {
+            line[chance.below(number)] = wrong_character(chance);
+        }
     }
     line
 }

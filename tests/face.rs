@@ -10,7 +10,7 @@ pub const MEMORY_SIZE: usize = 65536;
 pub const PORTS_SIZE: usize = 256;
 pub const PICTURE_DIGITS: usize = 50;
 pub const PICTURES_SIZE: usize = 102;
-pub const SEEN_SIZE: usize = 3;
+pub const SEEN_SIZE: usize = 4;
 
 pub const FITTED_AT: usize = 0;
 pub const PAGES_AT: usize = 2;
@@ -18,6 +18,9 @@ pub const PHASE_AT: usize = 18;
 pub const CONTENDERS_AT: usize = 19;
 pub const DRIVEN_AT: usize = 21;
 pub const GRANTED_AT: usize = 37;
+
+pub const SEEN_PHASE_AT: usize = 0;
+pub const SEEN_COLUMN_AT: usize = 3;
 
 pub const NOBODY: u8 = 0xFF;
 pub const PERMANENT_MASTER: u8 = 0x10;

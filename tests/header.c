@@ -23,7 +23,8 @@ static const struct {
     NAMED(S100_HOLD), NAMED(S100_PHLDA), NAMED(S100_ADSB), NAMED(S100_SDSB), NAMED(S100_DODSB), NAMED(S100_CDSB), NAMED(S100_SIXTN),
     NAMED(S100_SXTRQ),
     NAMED(S100_SMEMR), NAMED(S100_SM1), NAMED(S100_SINP), NAMED(S100_SOUT), NAMED(S100_SWO),
-    NAMED(S100_SEEN_PHASE_AT), NAMED(S100_SEEN_SIGNALS_AT), NAMED(S100_SEEN_LINES_AT), NAMED(S100_NO_PHASE),
+    NAMED(S100_SEEN_PHASE_AT), NAMED(S100_SEEN_SIGNALS_AT), NAMED(S100_SEEN_LINES_AT), NAMED(S100_SEEN_COLUMN_AT),
+    NAMED(S100_NO_PHASE),
     NAMED(S100_REQUEST), NAMED(S100_LOOK), NAMED(S100_ACKNOWLEDGE), NAMED(S100_BEGIN_TRANSFER_ONE), NAMED(S100_TAKE_BUS),
     NAMED(S100_BYTE_READ), NAMED(S100_OPCODE_FETCH), NAMED(S100_BYTE_WRITE), NAMED(S100_WORD_READ), NAMED(S100_WORD_WRITE),
     NAMED(S100_INPUT), NAMED(S100_OUTPUT), NAMED(S100_BEGIN_TRANSFER_TWO), NAMED(S100_GIVE_BACK), NAMED(S100_RESET),
@@ -31,10 +32,11 @@ static const struct {
     NAMED(S100_ACCEPTED), NAMED(S100_REFUSED_WRONG_BUFFERS), NAMED(S100_REFUSED_SENSELESS), NAMED(S100_REFUSED_MALFORMED),
     NAMED(S100_REFUSED_NAMES_NOBODY), NAMED(S100_REFUSED_NOT_FITTED), NAMED(S100_REFUSED_WRONG_PHASE), NAMED(S100_REFUSED_NOT_ITS_TURN),
     NAMED(S100_REFUSED_UNSETTLED), NAMED(S100_REFUSED_ODD_WORD), NAMED(S100_REFUSED_ABSENT), NAMED(S100_REFUSED_BAD_PAGE),
-    NAMED(S100_REFUSED_BAD_LINE), NAMED(S100_WRONG_LENGTH), NAMED(S100_NO_FIELD),
+    NAMED(S100_REFUSED_WRONG_LINE_LENGTH), NAMED(S100_REFUSED_WRONG_CHARACTER), NAMED(S100_WRONG_LENGTH), NAMED(S100_NO_FIELD),
 };
 
 static uint8_t state[S100_STATE_SIZE], answer[S100_ANSWER_SIZE], memory[S100_MEMORY_SIZE], ports[S100_PORTS_SIZE];
+static uint8_t lines[S100_PICTURES_SIZE], seen[S100_SEEN_SIZE];
 
 static void print_number(const char *name, unsigned long number) {
     printf("%s %02lX\n", name, number);
@@ -69,13 +71,16 @@ static void arbitrate(void) {
     print_bytes("state", state, sizeof state);
 }
 
+static void read_picture(size_t length) {
+    print_number("s100_read_picture", s100_read_picture(lines, length, seen, sizeof seen));
+    print_bytes("seen", seen, sizeof seen);
+}
+
 static void picture(uint8_t kind, uint32_t address) {
-    uint8_t lines[S100_PICTURES_SIZE], seen[S100_SEEN_SIZE] = {0};
     uint8_t written = s100_picture(kind, address, answer, sizeof answer, lines, sizeof lines);
     print_number("s100_picture", written);
     fwrite(lines, 1, written <= sizeof lines ? written : 0, stdout);
-    print_number("s100_read_picture", s100_read_picture(lines, S100_PICTURE_DIGITS, seen, sizeof seen));
-    print_bytes("seen", seen, sizeof seen);
+    read_picture(S100_PICTURE_DIGITS);
 }
 
 /* The word of before, and one more, which the eight-bit page splits. */
@@ -83,6 +88,20 @@ static void picture_words(void) {
     picture(S100_WORD_WRITE, 0x1000);
     step(S100_WORD_WRITE, S100_PERMANENT_MASTER, 0x0FFE, 0xABCD);
     picture(S100_WORD_WRITE, 0x0FFE);
+}
+
+/* A line of the last picture with two slips, a small e and a blank at the end; then cut short, then with the blank alone, and then mended.
+   Each reading finds in `seen` what the one before left there. */
+static void read_slips(void) {
+    const uint8_t end = lines[S100_PICTURE_DIGITS - 1];
+    lines[7] = 'e';
+    lines[S100_PICTURE_DIGITS - 1] = ' ';
+    read_picture(S100_PICTURE_DIGITS);
+    read_picture(S100_PICTURE_DIGITS - 1);
+    lines[7] = 'E';
+    read_picture(S100_PICTURE_DIGITS);
+    lines[S100_PICTURE_DIGITS - 1] = end;
+    read_picture(S100_PICTURE_DIGITS);
 }
 
 static void read_fields(void) {
@@ -102,6 +121,7 @@ int main(void) {
     }
     arbitrate();
     picture_words();
+    read_slips();
     read_fields();
     return 0;
 }

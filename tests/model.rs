@@ -1,5 +1,5 @@
 //! A model of the bus for the comparison to hold the proved library against: its rules are those of 01, its pictures those of 02, CR 1,
-//! with the pins of 003, Appendix B, and its bytes those of include/s100.h.
+//! with the pins of 003, Appendix B, its refusals of lines those of 02, CR 2, and its bytes those of include/s100.h.
 //!
 //! Bytes that make no sense never become a `Bus`, so that its events needn't think of them. The functions at the end take what the C face
 //! takes: any bytes, of any length.
@@ -24,7 +24,8 @@ pub enum Refusal {
     OddWord = 0x09,
     Absent = 0x0A,
     BadPage = 0x0B,
-    BadLine = 0x0C,
+    WrongLineLength = 0x0C,
+    WrongCharacter = 0x0D,
     WrongLength = 0xFF,
 }
 
@@ -611,12 +612,25 @@ impl Pins {
         pins
     }
 
-    fn from_line(line: &[u8]) -> Option<Pins> {
+    /// 02, CR 2: the characters of a line are judged only if it has the right length.
+    fn from_line(line: &[u8]) -> Result<Pins, WrongLine> {
+        if line.len() != PICTURE_DIGITS {
+            return Err(WrongLine { refusal: Refusal::WrongLineLength, column: 0 });
+        }
         let is_digit = |byte: &u8| matches!(byte, b'0'..=b'9' | b'A'..=b'F');
-        let digits = std::str::from_utf8(line).ok().filter(|_| line.len() == PICTURE_DIGITS && line.iter().all(is_digit))?;
+        if let Some((column, _)) = (1..).zip(line).find(|(_, byte)| !is_digit(byte)) {
+            return Err(WrongLine { refusal: Refusal::WrongCharacter, column });
+        }
+        let digits = std::str::from_utf8(line).expect("digits");
         let [high, driven] = [&digits[..25], &digits[25..]].map(|half| u128::from_str_radix(half, 16).expect("25 digits"));
-        Some(Pins { high, driven })
+        Ok(Pins { high, driven })
     }
+}
+
+/// Why a line isn't read, and the column that is told with it, which is 0 if none is.
+struct WrongLine {
+    refusal: Refusal,
+    column: u8,
 }
 
 fn in_set(state: &[u8], at: usize, card: u8) -> bool {
@@ -714,11 +728,17 @@ pub fn read_picture(line: &[u8], seen: &mut [u8]) -> u8 {
     if seen.len() != SEEN_SIZE {
         return Refusal::WrongLength as u8;
     }
-    let Some(pins) = Pins::from_line(line) else { return Refusal::BadLine as u8 };
+    let pins = match Pins::from_line(line) {
+        Ok(pins) => pins,
+        Err(WrongLine { refusal, column }) => {
+            seen.copy_from_slice(&[0, 0, 0, column]);
+            return refusal as u8;
+        }
+    };
     let signals = pins.shown_bits(&WIRES.signals);
     let by_phase = signals & !(signal::SIXTN + signal::SXTRQ);
     let phase = BARE_PHASES.iter().find(|phase| phase.signals() == by_phase).map_or(NO_PHASE, Phase::number);
-    seen.copy_from_slice(&[phase, signals, pins.shown_bits(&WIRES.priority)]);
+    seen.copy_from_slice(&[phase, signals, pins.shown_bits(&WIRES.priority), 0]);
     0
 }
 

@@ -1,8 +1,9 @@
-//! Counts of what the comparison reached: the numbers returned, the accepted kinds in each phase, the fields, the pictures in each phase
-//! and the wrong lengths.
+//! Counts of what the comparison reached: the numbers returned, the accepted kinds in each phase, the fields, the pictures in each phase,
+//! the refused lines and the wrong lengths.
 
 use crate::both::{Call, Lengths, RIGHT};
-use crate::face::{Field, ANSWER_SIZE, NO_FIELD, PAGES_SIZE};
+use crate::draw::DIGITS;
+use crate::face::{Field, ANSWER_SIZE, NO_FIELD, PAGES_SIZE, PICTURE_DIGITS, SEEN_COLUMN_AT, SEEN_PHASE_AT};
 
 pub struct Tally {
     setup: [u64; 256],
@@ -14,6 +15,8 @@ pub struct Tally {
     fields: [FieldCalls; 8],
     shown: [[u64; 6]; 10],
     seen: [u64; 256],
+    refused_lines: [u64; 4],
+    columns: [u64; 256],
     wrong: [u64; 10],
 }
 
@@ -70,6 +73,20 @@ fn place_of_shown(kind: u8, cycles: u8) -> usize {
     }
 }
 
+/// What can be wrong with a line: 02, CR 2.
+const REFUSED_LINES: [&str; 4] = ["one wrong character", "several wrong characters", "the length", "the length and characters"];
+
+/// In the order of `REFUSED_LINES`.
+fn place_of_refused(line: &[u8]) -> usize {
+    let wrong_characters = line.iter().filter(|byte| !DIGITS.contains(byte)).count();
+    match (line.len() == PICTURE_DIGITS, wrong_characters) {
+        (true, ..=1) => 0,
+        (true, _) => 1,
+        (false, 0) => 2,
+        (false, _) => 3,
+    }
+}
+
 const WRONG: [&str; 10] = [
     "setup's pages",
     "setup's state",
@@ -120,7 +137,7 @@ const SETUP_ANSWERS: [usize; 3] = [0x00, 0x0B, 0xFF];
 const STEP_ANSWERS: [usize; 12] = [0x00, 0x01, 0x02, 0x03, 0x04, 0x05, 0x06, 0x07, 0x08, 0x09, 0x0A, 0xFF];
 const SETTLE_ANSWERS: [usize; 8] = [0x00, 0x02, 0x03, 0x05, 0x06, 0x07, 0x08, 0xFF];
 const PICTURE_ANSWERS: [usize; 4] = [0, 51, 102, 0xFF];
-const READ_PICTURE_ANSWERS: [usize; 3] = [0x00, 0x0C, 0xFF];
+const READ_PICTURE_ANSWERS: [usize; 4] = [0x00, 0x0C, 0x0D, 0xFF];
 
 /// What is read as a phase: 01's six, or that there is none.
 const SEEN_PHASES: [usize; 7] = [0, 1, 2, 3, 4, 5, 0xFF];
@@ -129,7 +146,8 @@ impl Tally {
     pub fn new() -> Tally {
         let (setup, step, settle, picture, read_picture) = ([0; 256], [0; 256], [0; 256], [0; 256], [0; 256]);
         let (accepted, fields, shown) = ([[0; 6]; 16], [FieldCalls::default(); 8], [[0; 6]; 10]);
-        Tally { setup, step, settle, picture, read_picture, accepted, fields, shown, seen: [0; 256], wrong: [0; 10] }
+        let (seen, refused_lines, columns, wrong) = ([0; 256], [0; 4], [0; 256], [0; 10]);
+        Tally { setup, step, settle, picture, read_picture, accepted, fields, shown, seen, refused_lines, columns, wrong }
     }
 
     pub fn note(&mut self, call: &Call, lent: Lengths, phase_before: u8, returned: u32) {
@@ -166,8 +184,17 @@ impl Tally {
         self.shown[place_of_shown(kind, cycles)][usize::from(phase)] += 1;
     }
 
-    pub fn note_seen(&mut self, phase: u8) {
-        self.seen[usize::from(phase)] += 1;
+    /// What was read from a line, or why it wasn't.
+    pub fn note_reading(&mut self, line: &[u8], returned: u32, seen: &[u8]) {
+        match returned {
+            0x00 => self.seen[usize::from(seen[SEEN_PHASE_AT])] += 1,
+            0x0C => self.refused_lines[place_of_refused(line)] += 1,
+            0x0D => {
+                self.refused_lines[place_of_refused(line)] += 1;
+                self.columns[usize::from(seen[SEEN_COLUMN_AT])] += 1;
+            }
+            _ => {}
+        }
     }
 
     /// Counts by number, with the numbers that there can be.
@@ -197,6 +224,12 @@ impl Tally {
             let shown = phases.iter().map(|phase| format!("phase {phase}: {}", counts[*phase]));
             println!("  {name}: {}", shown.collect::<Vec<String>>().join(", "));
         }
+        println!("lines refused, by what was wrong:");
+        let shown = REFUSED_LINES.iter().zip(self.refused_lines).map(|(name, count)| format!("{name}: {count}"));
+        println!("  {}", shown.collect::<Vec<String>>().join(", "));
+        let told = &self.columns[1..=PICTURE_DIGITS];
+        let (all, fewest) = (told.iter().sum::<u64>(), told.iter().min().expect("columns"));
+        println!("columns of wrong characters told, from 1 to {PICTURE_DIGITS}: {all}, each {fewest} times or more");
         println!("calls with one wrong length, by whose it was:");
         let shown = WRONG.iter().zip(self.wrong).map(|(name, count)| format!("{name}: {count}"));
         println!("  {}", shown.collect::<Vec<String>>().join(", "));
@@ -228,6 +261,10 @@ impl Tally {
                 faults.push(format!("{name} was without a field {} times of {}", calls.without_field, calls.made));
             }
         }
+        let never = REFUSED_LINES.iter().zip(self.refused_lines).filter(|(_, count)| *count == 0);
+        faults.extend(never.map(|(name, _)| format!("no line was refused for {name}")));
+        let wrong = (0..256).filter(|column| (1..=PICTURE_DIGITS).contains(column) != (self.columns[*column] > 0));
+        faults.extend(wrong.map(|column| format!("column {column} told {} times", self.columns[column])));
         let never = WRONG.iter().zip(self.wrong).filter(|(_, count)| *count == 0);
         faults.extend(never.map(|(name, _)| format!("{name} was never alone of a wrong length")));
         faults

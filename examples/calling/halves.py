@@ -17,7 +17,7 @@ DATA_PINS = {"DO": [36, 35, 88, 89, 38, 39, 40, 90], "DI": [95, 94, 41, 42, 91, 
 
 Answer = collections.namedtuple("Answer", "refusal phase granted lines signals status cycles datum")
 ANSWER_BYTES = ">7BH"
-Seen = collections.namedtuple("Seen", "phase signals lines")
+Seen = collections.namedtuple("Seen", "phase signals lines column")
 
 library = ctypes.CDLL(sys.argv[1])
 BYTES, LENGTH, U8, U16, U32 = ctypes.POINTER(ctypes.c_uint8), ctypes.c_size_t, ctypes.c_uint8, ctypes.c_uint16, ctypes.c_uint32
@@ -54,10 +54,9 @@ def pictures(kind, address, answer):
 
 
 def read_picture(line):
-    digits, seen = (U8 * len(line))(*line.encode()), (U8 * 3)()
-    if library.s100_read_picture(digits, len(digits), seen, len(seen)) != 0:
-        raise ValueError("the line was refused")
-    return Seen._make(seen)
+    """The answer, 00 or why the line can't be read, and what is seen on the pins."""
+    digits, seen = (U8 * len(line))(*line.encode()), (U8 * 4)()
+    return library.s100_read_picture(digits, len(digits), seen, len(seen)), Seen._make(seen)
 
 
 def number_on(pins, half):
@@ -77,8 +76,13 @@ def print_pictures(kind, address, answer):
         levels, driven = line[:25], line[25:]
         carried = (f"{name} {number_on(pins, levels):02X}" for name, pins in DATA_PINS.items() if number_on(pins, driven) == 0xFF)
         print(f"  levels {levels}, driven {driven}:", *carried)
-    seen = read_picture(lines[0])
+    _, seen = read_picture(lines[0])
     print(f"  the first line read back: phase {seen.phase}, signals {true_signals(seen)}, priority lines {seen.lines}")
+
+
+def print_misread(title, line):
+    answer, seen = read_picture(line)
+    print(f"  {title}: answer {answer:02X}, column {seen.column}")
 
 
 def write_and_read(bus, page, address):
@@ -102,6 +106,12 @@ def print_phase(title, answer):
 bus = Bus(1 << 2 | 1 << 6, [0, EIGHT_BIT, SIXTEEN_BIT])
 write_and_read(bus, "an eight-bit", 0x1000)
 write_and_read(bus, "a sixteen-bit", 0x2000)
+
+first = pictures(WORD_WRITE, 0x1000, bus.step(WORD_WRITE, PERMANENT_MASTER, 0x1000, 0x1234))[0]
+print("the first picture with mistakes")
+print_misread("in small letters", first.lower())
+print_misread("with a space in place of its last digit", first[:-1] + " ")
+print_misread("with the space behind it", first + " ")
 
 bus.step(REQUEST, datum=1 << 2)
 bus.step(LOOK, 2)

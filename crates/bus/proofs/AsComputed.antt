@@ -86,7 +86,7 @@ pub other-pages : OtherPages
 other-pages = record { all = refl }
 
 pub numbers : Numbers
-numbers = record { low = refl; high = refl; none = refl; own = refl }
+numbers = record { low = refl; high = refl; ofLines = refl; none = refl; own = refl }
 
 pub sense-cases : SenseCases
 unfolding allBelow orBelow look everyContender shown looked settled afterLook someCard isWithin afterLooksOf everyListed drivingFits standingFits makesSense

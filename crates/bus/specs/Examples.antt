@@ -170,8 +170,9 @@ pub record OtherPages : Type 0 where
 pub record Numbers : Type 0 where
   pub low : Refusal.accepted ∷ Refusal.wrongBuffers ∷ Refusal.senseless ∷ Refusal.malformed ∷ Refusal.nobodyNamed ∷ Refusal.notFitted ∷ Refusal.wrongPhase ∷ []
       ≡ 0x00 ∷ 0x01 ∷ 0x02 ∷ 0x03 ∷ 0x04 ∷ 0x05 ∷ 0x06 ∷ []
-  pub high : Refusal.notItsTurn ∷ Refusal.unsettled ∷ Refusal.oddWord ∷ Refusal.absent ∷ Refusal.badPage ∷ Refusal.badLine ∷ []
-      ≡ 0x07 ∷ 0x08 ∷ 0x09 ∷ 0x0A ∷ 0x0B ∷ 0x0C ∷ []
+  pub high : Refusal.notItsTurn ∷ Refusal.unsettled ∷ Refusal.oddWord ∷ Refusal.absent ∷ Refusal.badPage ∷ []
+      ≡ 0x07 ∷ 0x08 ∷ 0x09 ∷ 0x0A ∷ 0x0B ∷ []
+  pub ofLines : Refusal.wrongLineLength ∷ Refusal.wrongCharacter ∷ [] ≡ 0x0C ∷ 0x0D ∷ []
   pub none : nobody ≡ 0xFF
   -- not among them
   pub own : Refusal.wrongLength ≡ 0xFF

@@ -1,4 +1,4 @@
--- The answers, as 01 numbers them in "Refusals and their order"; which call can give which is said where the call is defined.
+-- The answers, as 01 numbers them in "Refusals and their order", and 02 after it; which call can give which is said where the call is defined.
 use Prim.Native.Nat.{ℕ}
 
 abbrev pub accepted : ℕ
@@ -48,9 +48,13 @@ absent = 0x0A
 abbrev pub badPage : ℕ
 badPage = 0x0B
 
--- a text line of the wrong length, or with a byte that is no digit
-abbrev pub badLine : ℕ
-badLine = 0x0C
+-- a text line of the wrong length
+abbrev pub wrongLineLength : ℕ
+wrongLineLength = 0x0C
+
+-- a text line of the right length with a byte that is no digit (02, CR 2)
+abbrev pub wrongCharacter : ℕ
+wrongCharacter = 0x0D
 
 -- none of 01's: a buffer of some call has a length that the call can't have, where 01's first number is for memory and ports alone
 abbrev pub wrongLength : ℕ

@@ -28,7 +28,9 @@ pub const ABSENT: u8 = 0x0A;
 
 pub const BAD_PAGE: u8 = 0x0B;
 
-pub const BAD_LINE: u8 = 0x0C;
+pub const WRONG_LINE_LENGTH: u8 = 0x0C;
+
+pub const WRONG_CHARACTER: u8 = 0x0D;
 
 // Not one of 01's: a buffer of a call has another length than it must have.
 pub const WRONG_LENGTH: u8 = 0xFF;

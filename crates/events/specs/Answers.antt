@@ -33,9 +33,13 @@ wordSignals kind s = cond (Kind.isWord kind) (sXTRQ + cond (assertsSIXTN s) SIXT
 abbrev pub signalsWith : ℕ → ℕ → Slave → ℕ
 signalsWith phase kind s = signalsIn phase + wordSignals kind s
 
+-- a number, with nothing but a datum behind it
+abbrev pub bareWith : ℕ → ℕ → Answer
+bareWith refusal datum = record { refusal = refusal; phase = 0; granted = 0; lines = 0; signals = 0; status = 0; cycles = 0; datum = datum }
+
 -- a number alone
 abbrev pub bare : ℕ → Answer
-bare refusal = record { refusal = refusal; phase = 0; granted = 0; lines = 0; signals = 0; status = 0; cycles = 0; datum = 0 }
+bare refusal = bareWith refusal 0
 
 -- After 01 and 02 nothing is shown; after the others, the bus as it is, without status, cycles and datum.
 abbrev pub refusedWith : ℕ → Bus → Answer

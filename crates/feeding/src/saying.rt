@@ -3,14 +3,16 @@ ghost use mathlib.Core.Path.{_≡_};
 ghost use Prim.Native.Nat.{_≤_};
 ghost use lib.ListN.{length};
 ghost use lib.Seq.{sets};
-ghost use Rattle.session.specs.World.{replyAs, eventAs, mostSaid};
+ghost use Rattle.session.specs.World.{faultAnswer, replyAs, eventAs, mostSaid};
 use events::Answer;
 use judgement::Event;
 use pins::sizes::MOST_PICTURED;
 use printing::put_answer;
 use printing::put_pictures;
 use session::Wanted;
+use stepping::bare_with;
 use text::ANSWER_LENGTH;
+use text::Fault;
 
 // The most bytes that are written for a line.
 pub fn most_said(wanted: Wanted) -> usize
@@ -20,6 +22,13 @@ pub fn most_said(wanted: Wanted) -> usize
         Wanted::Answers => ANSWER_LENGTH,
         Wanted::Pictures => MOST_PICTURED,
     }
+}
+
+// The number of a bad line, and the column of its first wrong character.
+pub fn fault_answer(fault: Fault) -> Answer
+    ensures { λ r. ⌜ r ≡ faultAnswer fault ⌝ }
+{
+    bare_with(fault.refusal, fault.column as u16)
 }
 
 // For a line that is no event.

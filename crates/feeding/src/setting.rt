@@ -1,20 +1,20 @@
 // A session before its first line, and the setup line.
 ghost use mathlib.Core.Path.{_≡_};
-ghost use Rattle.text.specs.Frames.{setupIn};
 ghost use Rattle.session.specs.World.{fresh, refusedSetup, setUpBy, setupAnswer, stageAfter};
 use bus::EMPTY_CHASSIS;
 use bus::SetupAnswer;
 use bus::numbers::*;
 use events::Answer;
 use memory::Moved;
-use reading::setup_line;
 use sense::freed;
 use sense::setup;
 use session::Session;
 use session::Stage;
 use stepping::answer_with;
-use stepping::bare;
+use stepping::bare_with;
 use tables::signals;
+use text::Fault;
+use text::SetupLine;
 
 pub fn fresh() -> Session
     ensures { λ r. ⌜ r ≡ fresh ⌝ }
@@ -25,15 +25,15 @@ pub fn fresh() -> Session
     }
 }
 
-pub fn set_up(line: &[u8]) -> SetupAnswer
-    ensures { λ r. ⌜ r ≡ setUpBy (setupIn (now (line .entry))) ⌝ }
+pub fn set_up(line: SetupLine) -> SetupAnswer
+    ensures { λ r. ⌜ r ≡ setUpBy line ⌝ }
 {
-    let given = setup_line(line);
-    let chassis = given.chassis;
-    if given.refusal == ACCEPTED {
+    let fault = line.fault;
+    let chassis = line.chassis;
+    if fault.refusal == ACCEPTED {
         setup(chassis)
     } else {
-        refused_setup(given.refusal)
+        refused_setup(fault.refusal)
     }
 }
 
@@ -46,15 +46,15 @@ fn refused_setup(refusal: u8) -> SetupAnswer
     }
 }
 
-// A refusal is shown alone.
-pub fn setup_answer(given: SetupAnswer) -> Answer
-    ensures { λ r. ⌜ r ≡ setupAnswer given ⌝ }
+// A refusal is shown alone, with the column of a wrong character.
+pub fn setup_answer(fault: Fault, given: SetupAnswer) -> Answer
+    ensures { λ r. ⌜ r ≡ setupAnswer fault given ⌝ }
 {
     let bus = given.bus;
     if given.answer == ACCEPTED {
         answer_with(ACCEPTED, bus, signals(bus.phase), 0, Moved::NOTHING)
     } else {
-        bare(given.answer)
+        bare_with(given.answer, fault.column as u16)
     }
 }
 

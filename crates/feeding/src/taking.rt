@@ -11,6 +11,7 @@ ghost use Rattle.session.specs.World.{world, mostSaid};
 ghost use Rattle.session.specs.Feeding.{takes, takesFirst, hasRoom, linesTaken, told, worldOf};
 ghost use Rattle.session.specs.declared.state.Stage.the-variants.{Awaiting, Running, Ended};
 ghost use Rattle.session.specs.declared.state.Wanted.{Wanted};
+use crate::saying::fault_answer;
 use crate::saying::most_said;
 use crate::saying::put_event;
 use crate::saying::put_reply;
@@ -18,14 +19,13 @@ use crate::setting::set_up;
 use crate::setting::setup_answer;
 use crate::setting::stage_after;
 use bus::Bus;
-use bus::numbers::*;
 use reading::line_end;
 use reading::next_line;
+use reading::setup_line;
 use session::Session;
 use session::Stage;
 use session::TakenLines;
 use session::Wanted;
-use stepping::bare;
 use stepping::sound_step;
 use text::EVENT_DIGITS;
 use text::Line;
@@ -131,8 +131,9 @@ fn take_setup(wanted: Wanted, bus: Bus, rest: &[u8], out: &mut [u8]) -> TakenLin
 {
     let end = line_end(rest);
     if end < rest.len() {
-        let given = set_up(&rest[..end]);
-        let written = put_reply(wanted, setup_answer(given), out);
+        let line = setup_line(&rest[..end]);
+        let given = set_up(line);
+        let written = put_reply(wanted, setup_answer(line.fault, given), out);
         told(stage_after(given), given.bus, end + 1, written)
     } else {
         told(Stage::Awaiting, bus, 0, 0)
@@ -167,9 +168,9 @@ fn take_event(
             let written = put_event(wanted, event, answer, out);
             told(Stage::Running, next, EVENT_BYTES, written)
         }
-        Line::Bad(size) => {
-            let written = put_reply(wanted, bare(BAD_LINE), out);
-            told(Stage::Running, bus, size + 1, written)
+        Line::Bad(bad) => {
+            let written = put_reply(wanted, fault_answer(bad.fault), out);
+            told(Stage::Running, bus, bad.size + 1, written)
         }
         Line::Unended => told(Stage::Running, bus, 0, 0),
     }

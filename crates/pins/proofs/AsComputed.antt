@@ -2,6 +2,7 @@
 use mathlib.Core.Path.{refl}
 use Rattle.words.specs.Below.{allBelow, listBelow}
 use Rattle.words.specs.Among.{isAmong, everyListed, beside, whoHas}
+use Rattle.words.specs.First.{leastBelow}
 use Rattle.phases.specs.Signal.{signalsIn}
 use Rattle.phases.specs.Control.{strobeOf, controlIn}
 use Rattle.text.specs.Digits.{digitsOf}
@@ -38,7 +39,7 @@ cycling = record {
 }
 
 pub telling : Telling
-unfolding allBelow everyListed beside whoHas digitsOf pinTable gathered pictureIn
+unfolding allBelow everyListed leastBelow beside whoHas digitsOf pinTable gathered pictureIn
 telling = record {
   idle = refl;
   arbitration = refl;
@@ -52,5 +53,7 @@ telling = record {
   short = refl;
   long = refl;
   ended = refl;
-  small = refl;
+  first = refl;
+  last = refl;
+  two = refl;
 }

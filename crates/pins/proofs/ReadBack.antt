@@ -8,6 +8,7 @@ use native.Mathlib.Omega.{arith}
 use lib.Dec.{eqb}
 use lib.ListN.{length, take}
 use lib.Seq.{take-at}
+use borrow.Author.Tests.{eq-eqb, ne-eqb}
 use Rattle.words.specs.Bits.{bitAt}
 use Rattle.words.specs.Below.{allBelow}
 use Rattle.words.specs.Among.{isAmong, beside, whoHas}
@@ -27,10 +28,11 @@ use Rattle.events.specs.Step.{refusalIn, answerTo}
 use Rattle.events.specs.Promises.{codeThere}
 use Rattle.events.proofs.EachCycle.{word-read-does, word-write-does}
 use Rattle.text.specs.Newlines.{newline}
+use Rattle.text.proofs.FaultLaws.{wrong-first}
 use Rattle.pins.specs.BusLine.{isDriven, isTrue}
 use Rattle.pins.specs.Pin.{pinTable, pinAt}
 use Rattle.pins.specs.Moments.{idleMoment, byteMoment, wordMoment, evenMoment, oddMoment}
-use Rattle.pins.specs.Picture.{pictureOf, linesFor}
+use Rattle.pins.specs.Picture.{pictureDigits, pictureOf, linesFor}
 use Rattle.pins.specs.ReadAgain.{trueOn, signalsOn, priorityLinesOn, phaseWith, seen, pictureIn}
 use Rattle.pins.specs.Promises.{ReadsBack, AlikePictured, BadPictureRefused, pictures}
 use Rattle.pins.specs.declared.moments.Moment.{Moment}
@@ -136,11 +138,11 @@ module _ (x : Moment) where
       ) (lines-told (x .lines) small)
 
   read-again : (phase kind w : ℕ) → Fits x phase kind w → (w ≡ 0) ⊎ (x .cyclic ≡ true)
-      → pictureIn (pictureOf x) ≡ seen 0 phase (x .signals) (x .lines)
+      → pictureIn (pictureOf x) ≡ seen phase (x .signals) (x .lines)
   unfolding pictureIn
   read-again phase kind w fits cycle =
       rw (fifty-digits x .0, signals-told phase kind w fits cycle, lines-again (fits .lines)) (
-      ap (λ (p : ℕ). seen 0 p (x .signals) (x .lines)) (ap phaseWith (fits .signals) ∙ phase-told phase w (fits .phaseKnown) (fits .word)))
+      ap (λ (p : ℕ). seen p (x .signals) (x .lines)) (ap phaseWith (fits .signals) ∙ phase-told phase w (fits .phaseKnown) (fits .word)))
 
 -- ---- The first line of an event
 
@@ -152,23 +154,23 @@ first-line x rest =
 module _ (m : Machine) (event : Event) (ok : refusalIn m event ≡ 0) where
   reads : (x : Moment) (rest : List Moment) (w : ℕ) → pictures m event ≡ linesFor (x ∷ rest) → Fits x (answerTo m event .phase) (event .kind) w
       → (w ≡ 0) ⊎ (x .cyclic ≡ true) → x .signals ≡ answerTo m event .signals → x .lines ≡ answerTo m event .lines
-      → pictureIn (take 50 (pictures m event)) ≡ seen 0 (answerTo m event .phase) (answerTo m event .signals) (answerTo m event .lines)
+      → pictureIn (take 50 (pictures m event)) ≡ seen (answerTo m event .phase) (answerTo m event .signals) (answerTo m event .lines)
   reads x rest w is fits cycle signals lines =
       ap (λ (text : List ℕ). pictureIn (take 50 text)) is
       ∙ ap pictureIn (first-line x rest)
       ∙ read-again x (answerTo m event .phase) (event .kind) w fits cycle
-      ∙ ap₂ (λ (s l : ℕ). seen 0 (answerTo m event .phase) s l) signals lines
+      ∙ ap₂ (λ (s l : ℕ). seen (answerTo m event .phase) s l) signals lines
 
   -- by what the event is
   idle-reads : isCycle (event .kind) ≡ false
-      → pictureIn (take 50 (pictures m event)) ≡ seen 0 (answerTo m event .phase) (answerTo m event .signals) (answerTo m event .lines)
+      → pictureIn (take 50 (pictures m event)) ≡ seen (answerTo m event .phase) (answerTo m event .signals) (answerTo m event .lines)
   idle-reads none =
       let narrow = no-word m event ok (word-strobe (event .kind) (kind-known m event ok) (strobe m event ok false none)) in
       reads (idleMoment event (answerTo m event)) [] 0 (idle-moments m event ok none) (fits-as m event ok 0 (inl refl) narrow 0 0 0 false false) (inl refl)
       refl refl
 
   byte-reads : isCycle (event .kind) ≡ true → Kind.isWord (event .kind) ≡ false
-      → pictureIn (take 50 (pictures m event)) ≡ seen 0 (answerTo m event .phase) (answerTo m event .signals) (answerTo m event .lines)
+      → pictureIn (take 50 (pictures m event)) ≡ seen (answerTo m event .phase) (answerTo m event .signals) (answerTo m event .lines)
   byte-reads cycle narrow =
       let datum = oddHalf (answerTo m event .datum) in
       reads (byteMoment event (answerTo m event) (answerTo m event .signals) (event .address) datum) [] 0
@@ -177,14 +179,14 @@ module _ (m : Machine) (event : Event) (ok : refusalIn m event ≡ 0) where
       (inl refl) refl refl
 
   word-reads : Kind.isWord (event .kind) ≡ true → (w : ℕ) → Word w → wordSignals (event .kind) (slaveAt (m .bus .pages) (event .address)) ≡ w
-      → pictureIn (take 50 (pictures m event)) ≡ seen 0 (answerTo m event .phase) (answerTo m event .signals) (answerTo m event .lines)
+      → pictureIn (take 50 (pictures m event)) ≡ seen (answerTo m event .phase) (answerTo m event .signals) (answerTo m event .lines)
   word-reads word w some adds = go (eqb (answerTo m event .cycles) 2) refl
     where
       on : (isWriting (event .kind) || isReading (event .kind)) ≡ true
       on = on-cycle m event ok (word-cycle m event ok word)
 
       go : (split : Bool) → eqb (answerTo m event .cycles) 2 ≡ split
-          → pictureIn (take 50 (pictures m event)) ≡ seen 0 (answerTo m event .phase) (answerTo m event .signals) (answerTo m event .lines)
+          → pictureIn (take 50 (pictures m event)) ≡ seen (answerTo m event .phase) (answerTo m event .signals) (answerTo m event .lines)
       go true two =
           let half = evenHalf (answerTo m event .datum) in
           reads (evenMoment event (answerTo m event)) (oddMoment event (answerTo m event) ∷ []) w
@@ -218,11 +220,14 @@ reads-back m event ok =
 
 pub alike-pictured : AlikePictured
 alike-pictured m n event other ok ok' same =
-    let told : seen 0 (answerTo m event .phase) (answerTo m event .signals) (answerTo m event .lines)
-    ≡ seen 0 (answerTo n other .phase) (answerTo n other .signals) (answerTo n other .lines) =
+    let told : seen (answerTo m event .phase) (answerTo m event .signals) (answerTo m event .lines)
+    ≡ seen (answerTo n other .phase) (answerTo n other .signals) (answerTo n other .lines) =
     sym (reads-back m event ok) ∙ ap pictureIn same ∙ reads-back n other ok' in
     (ap (λ (s : Seen). s .phase) told, (ap (λ (s : Seen). s .signals) told, ap (λ (s : Seen). s .lines) told))
 
 pub bad-picture-refused : BadPictureRefused
 unfolding pictureIn
-bad-picture-refused line bad = rw bad refl
+bad-picture-refused line = (
+  λ other. rw (ne-eqb (length line) pictureDigits other) refl,
+  λ column size first. let so = wrong-first line column first in rw (eq-eqb (length line) pictureDigits size, so .0, so .1) refl,
+)

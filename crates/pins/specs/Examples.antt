@@ -10,7 +10,7 @@ use Rattle.events.specs.declared.answers.Answer.{Answer}
 use Rattle.text.specs.Digits.{digitsOf}
 use Rattle.pins.specs.Pin.{pinAt}
 use Rattle.pins.specs.Picture.{levelDigits, pictureDigits, pictureLength, mostPictured, picturesOf}
-use Rattle.pins.specs.ReadAgain.{seen, pictureIn}
+use Rattle.pins.specs.ReadAgain.{seen, unseen, pictureIn}
 
 pub record Sizes : Type 0 where
   pub digits : levelDigits ∷ pictureDigits ∷ pictureLength ∷ mostPictured ∷ [] ≡ 25 ∷ 50 ∷ 51 ∷ 102 ∷ []
@@ -89,20 +89,22 @@ pub record Cycling : Type 0 where
 -- ---- Read again
 
 pub record Telling : Type 0 where
-  pub idle : pictureIn (take 50 idleLine) ≡ seen 0 0 0x00 0
-  pub arbitration : pictureIn (take 50 (lineOf 0x0000668000000 0x090000800000 0x000466C000000 0x390105C00000)) ≡ seen 0 1 0x01 11
+  pub idle : pictureIn (take 50 idleLine) ≡ seen 0 0x00 0
+  pub arbitration : pictureIn (take 50 (lineOf 0x0000668000000 0x090000800000 0x000466C000000 0x390105C00000)) ≡ seen 1 0x01 11
   -- one disable line alone, which no phase has: ADSB, SDSB, DODSB, CDSB
-  pub adsb : pictureIn (take 50 (lineOf 0x0004628000000 0x390004800000 0x000466C000000 0x390105C00000)) ≡ seen 0 0xFF 0x04 0
-  pub sdsb : pictureIn (take 50 (lineOf 0x0004268000000 0x390004800000 0x000466C000000 0x390105C00000)) ≡ seen 0 0xFF 0x08 0
-  pub dodsb : pictureIn (take 50 (lineOf 0x0004648000000 0x390004800000 0x000466C000000 0x390105C00000)) ≡ seen 0 0xFF 0x10 0
-  pub cdsb : pictureIn (take 50 (lineOf 0x0004468000000 0x390004800000 0x000466C000000 0x390105C00000)) ≡ seen 0 0xFF 0x20 0
-  pub owned : pictureIn (take 50 (lineOf 0x000400C6FBC20 0x380000DDA828 0x0007E6CFFFFE0 0x3FF105FFFFE8)) ≡ seen 0 4 0xFF 0
+  pub adsb : pictureIn (take 50 (lineOf 0x0004628000000 0x390004800000 0x000466C000000 0x390105C00000)) ≡ seen 0xFF 0x04 0
+  pub sdsb : pictureIn (take 50 (lineOf 0x0004268000000 0x390004800000 0x000466C000000 0x390105C00000)) ≡ seen 0xFF 0x08 0
+  pub dodsb : pictureIn (take 50 (lineOf 0x0004648000000 0x390004800000 0x000466C000000 0x390105C00000)) ≡ seen 0xFF 0x10 0
+  pub cdsb : pictureIn (take 50 (lineOf 0x0004468000000 0x390004800000 0x000466C000000 0x390105C00000)) ≡ seen 0xFF 0x20 0
+  pub owned : pictureIn (take 50 (lineOf 0x000400C6FBC20 0x380000DDA828 0x0007E6CFFFFE0 0x3FF105FFFFE8)) ≡ seen 4 0xFF 0
   -- nothing driven: nothing true, although starred pins are low
-  pub undriven : pictureIn (replicate 50 0x30) ≡ seen 0 0 0x00 0
+  pub undriven : pictureIn (replicate 50 0x30) ≡ seen 0 0x00 0
   -- everything driven and low: each starred signal is true, and no phase has them without pHLDA
-  pub low : pictureIn (replicate 25 0x30 ++ replicate 25 0x46) ≡ seen 0 0xFF 0xFD 15
-  -- a digit less, one more, the newline, and a small letter
-  pub short : pictureIn (replicate 49 0x30) ≡ seen 0x0C 0 0 0
-  pub long : pictureIn (replicate 51 0x30) ≡ seen 0x0C 0 0 0
-  pub ended : pictureIn idleLine ≡ seen 0x0C 0 0 0
-  pub small : pictureIn (0x61 ∷ replicate 49 0x30) ≡ seen 0x0C 0 0 0
+  pub low : pictureIn (replicate 25 0x30 ++ replicate 25 0x46) ≡ seen 0xFF 0xFD 15
+  -- a digit less, one more, the newline; a small letter in the first column, a space in the last, and two, of which the first counts
+  pub short : pictureIn (replicate 49 0x30) ≡ unseen 0x0C 0
+  pub long : pictureIn (replicate 51 0x30) ≡ unseen 0x0C 0
+  pub ended : pictureIn idleLine ≡ unseen 0x0C 0
+  pub first : pictureIn (0x61 ∷ replicate 49 0x30) ≡ unseen 0x0D 1
+  pub last : pictureIn (replicate 49 0x30 ++ 0x20 ∷ []) ≡ unseen 0x0D 50
+  pub two : pictureIn (replicate 24 0x30 ++ 0x4F ∷ 0x61 ∷ replicate 24 0x30) ≡ unseen 0x0D 25

@@ -16,10 +16,11 @@ use Rattle.events.specs.Step.{refusalIn, after, answerTo}
 use Rattle.events.specs.Promises.{codeThere}
 use Rattle.text.specs.Digits.{isDigits}
 use Rattle.text.specs.Newlines.{newline}
+use Rattle.text.specs.Promises.{FirstWrong}
 use Rattle.pins.specs.BusLine.{isDriven}
 use Rattle.pins.specs.Pin.{pinAt, isHigh}
 use Rattle.pins.specs.Picture.{pictureOf, pictureLine, picturesOf}
-use Rattle.pins.specs.ReadAgain.{highOn, drivenOn, seen, pictureIn}
+use Rattle.pins.specs.ReadAgain.{highOn, drivenOn, seen, unseen, pictureIn}
 use Rattle.pins.specs.declared.moments.Moment.{Moment}
 
 -- ---- Every line
@@ -237,7 +238,7 @@ RefusedUnpictured = (m : Machine) (event : Event) → (refusalIn m event ≡ Ref
 abbrev pub ReadsBack : Type 0
 ReadsBack =
     (m : Machine) (event : Event) → refusalIn m event ≡ Refusal.accepted
-    → pictureIn (take 50 (pictures m event)) ≡ seen 0 (answerTo m event .phase) (answerTo m event .signals) (answerTo m event .lines)
+    → pictureIn (take 50 (pictures m event)) ≡ seen (answerTo m event .phase) (answerTo m event .signals) (answerTo m event .lines)
 
 -- so machines whose pictures agree agree in these.
 abbrev pub AlikePictured : Type 0
@@ -247,6 +248,10 @@ AlikePictured =
     → (answerTo m event .phase ≡ answerTo n other .phase)
     × ((answerTo m event .signals ≡ answerTo n other .signals) × (answerTo m event .lines ≡ answerTo n other .lines))
 
--- A line that isn't fifty digits is refused with 0C, and nothing is told of it.
+-- A line of another length is refused with 0C, whatever its bytes are, and nothing is told of it; one of fifty bytes with a wrong character with
+-- 0D, and the column of the first is told.
 abbrev pub BadPictureRefused : Type 0
-BadPictureRefused = (line : List ℕ) → isDigits 50 line ≡ false → pictureIn line ≡ seen 0x0C 0 0 0
+BadPictureRefused =
+    (line : List ℕ)
+    → ((length line ≡ 50 → ⊥) → pictureIn line ≡ unseen 0x0C 0)
+    × ((column : ℕ) → length line ≡ 50 → FirstWrong line column → pictureIn line ≡ unseen 0x0D column)

@@ -7,8 +7,9 @@ use lib.ListN.{getD}
 use Rattle.words.specs.Bits.{bitAt}
 use Rattle.words.specs.Among.{whoHas}
 use Rattle.phases.specs.Signal.{pHLDA, SIXTN, sXTRQ, signalTable}
-use Rattle.bus.specs.Refusal.{accepted, badLine}
+use Rattle.bus.specs.Refusal.{accepted}
 use Rattle.text.specs.Digits.{valueOf, isDigits}
+use Rattle.text.specs.Faults.{faultOf}
 use Rattle.pins.specs.BusLine.{BusLine, address, dataOut, dataIn, priority, pulledUp, status, wordRequest, control, memoryWrite, unmodelled}
 use Rattle.pins.specs.Pin.{Pin, pinTable}
 use Rattle.pins.specs.Picture.{levelDigits, pictureDigits}
@@ -79,11 +80,16 @@ phaseWith signals = whoHas (signals % SIXTN) signalTable phaseUnknown
 
 -- ---- A line
 
-abbrev pub seen : ℕ → ℕ → ℕ → ℕ → Seen
-seen refusal phase signals lines = record { refusal = refusal; phase = phase; signals = signals; lines = lines }
+abbrev pub seen : ℕ → ℕ → ℕ → Seen
+seen phase signals lines = record { refusal = accepted; phase = phase; signals = signals; lines = lines; column = 0 }
 
 abbrev pub seenOn : List ℕ → Seen
-seenOn line = seen accepted (phaseWith (signalsOn line)) (signalsOn line) (priorityLinesOn line)
+seenOn line = seen (phaseWith (signalsOn line)) (signalsOn line) (priorityLinesOn line)
+
+-- a line that can't be read: its number, and the column of its first wrong character (02, CR 2)
+abbrev pub unseen : ℕ → ℕ → Seen
+unseen refusal column = record { refusal = refusal; phase = 0; signals = 0; lines = 0; column = column }
 
 unfoldable pub pictureIn : List ℕ → Seen
-pictureIn line = cond (isDigits pictureDigits line) (seenOn line) (seen badLine 0 0 0)
+pictureIn line =
+    cond (isDigits pictureDigits line) (seenOn line) (unseen (faultOf pictureDigits line .refusal) (faultOf pictureDigits line .column))

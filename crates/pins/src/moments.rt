@@ -19,10 +19,11 @@ pub struct Moment {
     pub dinDriven: bool,
 }
 
-// What the pins of a picture tell, or why its line can't be read.
+// What the pins of a picture tell, or why its line can't be read; then in which column its first wrong character is, if it has one.
 pub struct Seen {
     pub refusal: u8,
     pub phase: u8,
     pub signals: u8,
     pub lines: u8,
+    pub column: u8,
 }

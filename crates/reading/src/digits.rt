@@ -2,8 +2,8 @@
 ghost use mathlib.Core.Bool.{true};
 ghost use mathlib.Core.Path.{_≡_};
 ghost use Prim.Native.Nat.{_%_};
-ghost use Rattle.words.specs.Among.{everyListed};
 ghost use Rattle.text.specs.Digits.{isDigit, valueOf};
+ghost use Rattle.text.specs.Faults.{leadingDigits};
 
 // From the byte 0 on to the byte F, a one for each that is a digit.
 const DIGITS: u32 = 0x7E03FF;
@@ -26,15 +26,16 @@ pub fn value(b: u8) -> u8
     b % 16 + b / 64 * 9
 }
 
-pub fn all_digits(line: &[u8]) -> bool
-    ensures { λ r. ⌜ r ≡ everyListed isDigit (now (line .entry)) ⌝ }
+// How many digits come before the first byte that is none.
+pub fn leading_digits(line: &[u8]) -> usize
+    ensures { λ r. ⌜ r ≡ leadingDigits (now (line .entry)) ⌝ }
 {
     let mut i: usize = 0;
     while i < line.len() {
         if !is_digit(line[i]) {
-            return false;
+            return i;
         }
         i += 1;
     }
-    true
+    i
 }

@@ -1,5 +1,6 @@
 // Lines of text, read.
 mod digits;
+mod faults;
 mod line_reading;
 mod picture_reading;
 

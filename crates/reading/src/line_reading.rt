@@ -7,8 +7,9 @@ ghost use Rattle.words.specs.Among.{everyListed};
 ghost use Rattle.text.specs.Digits.{isDigit, numberOf, isDigits};
 ghost use Rattle.text.specs.Newlines.{hasNewline, firstLine};
 ghost use Rattle.text.specs.Frames.{digitsFrom, eventDigits, eventIn, nextLine, setupDigits, pagesIn, chassisIn, setupIn};
-use crate::digits::all_digits;
+use crate::digits::leading_digits;
 use crate::digits::value;
+use crate::faults::fault_of;
 use bus::Chassis;
 use bus::EMPTY_CHASSIS;
 use bus::numbers::*;
@@ -38,7 +39,10 @@ pub fn next_line(text: &[u8]) -> Line
     } else {
         let end = line_end(text);
         if end < text.len() {
-            Line::Bad(end)
+            Line::Bad(BadLine {
+                size: end,
+                fault: fault_of(&text[..end], EVENT_DIGITS),
+            })
         } else {
             Line::Unended
         }
@@ -50,7 +54,7 @@ fn leads_frame(text: &[u8]) -> bool
 {
     if EVENT_DIGITS < text.len() {
         if text[EVENT_DIGITS] == NEWLINE {
-            return all_digits(&text[..EVENT_DIGITS]);
+            return leading_digits(&text[..EVENT_DIGITS]) == EVENT_DIGITS;
         }
     }
     false
@@ -93,17 +97,17 @@ fn four(line: &[u8], at: usize) -> u16
 pub fn setup_line(line: &[u8]) -> SetupLine
     ensures { λ r. ⌜ r ≡ setupIn (now (line .entry)) ⌝ }
 {
-    if line.len() == SETUP_DIGITS {
-        if all_digits(line) {
-            return SetupLine {
-                refusal: ACCEPTED,
-                chassis: chassis_in(line),
-            };
+    let fault = fault_of(line, SETUP_DIGITS);
+    if fault.refusal == ACCEPTED {
+        SetupLine {
+            fault: fault,
+            chassis: chassis_in(line),
         }
-    }
-    SetupLine {
-        refusal: BAD_LINE,
-        chassis: EMPTY_CHASSIS,
+    } else {
+        SetupLine {
+            fault: fault,
+            chassis: EMPTY_CHASSIS,
+        }
     }
 }
 

@@ -8,8 +8,8 @@ ghost use Rattle.text.specs.Digits.{isDigit};
 ghost use Rattle.pins.specs.Picture.{pictureDigits};
 ghost use Rattle.pins.specs.ReadAgain.{bitFrom, trueOn, signalsOn, priorityLinesOn, phaseWith, seenOn, pictureIn};
 ghost use Rattle.reading.specs.Signals.{disablingOn, othersOn};
-use crate::digits::all_digits;
 use crate::digits::value;
+use crate::faults::fault_of;
 use bus::numbers::*;
 use phases::numbers::*;
 use pins::Seen;
@@ -21,16 +21,17 @@ const NO_PHASE: u8 = 0xFF;
 pub fn picture_line(line: &[u8]) -> Seen
     ensures { λ r. ⌜ r ≡ pictureIn (now (line .entry)) ⌝ }
 {
-    if line.len() == PICTURE_DIGITS {
-        if all_digits(line) {
-            return seen_on(line);
+    let fault = fault_of(line, PICTURE_DIGITS);
+    if fault.refusal == ACCEPTED {
+        seen_on(line)
+    } else {
+        Seen {
+            refusal: fault.refusal,
+            phase: 0,
+            signals: 0,
+            lines: 0,
+            column: fault.column,
         }
-    }
-    Seen {
-        refusal: BAD_LINE,
-        phase: 0,
-        signals: 0,
-        lines: 0,
     }
 }
 
@@ -45,6 +46,7 @@ fn seen_on(line: &[u8]) -> Seen
         phase: phase_with(signals),
         signals: signals,
         lines: lines_on(line),
+        column: 0,
     }
 }
 

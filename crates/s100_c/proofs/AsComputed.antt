@@ -84,7 +84,7 @@ settle-calls = record {
 }
 
 pub picture-calls : PictureCalls
-unfolding answerIn allBelow everyListed isAmong listBelow beside whoHas signalsIn strobeOf controlIn digitsOf pinTable momentsOf levelsOf drivenOf
+unfolding answerIn allBelow everyListed leastBelow isAmong listBelow beside whoHas signalsIn strobeOf controlIn digitsOf pinTable momentsOf levelsOf drivenOf
     linesFor gathered pictureIn
 picture-calls = record {
   answers = refl;
@@ -95,6 +95,8 @@ picture-calls = record {
   shortLeaves = refl;
   readAgain = refl;
   readLeft = refl;
+  longRead = refl;
+  longLeft = refl;
   badRead = refl;
   badLeft = refl;
   shortRead = refl;

@@ -24,6 +24,7 @@ use Rattle.events.specs.Machine.{Machine}
 use Rattle.events.specs.Step.{refusalIn}
 use Rattle.events.proofs.Refused.{answers-refusal}
 use Rattle.text.specs.Digits.{isDigits}
+use Rattle.text.proofs.FaultLaws.{by-fault}
 use Rattle.pins.specs.Picture.{pictureDigits}
 use Rattle.pins.specs.ReadAgain.{pictureIn}
 use Rattle.pins.proofs.DigitLaws.{pictures-fit}
@@ -65,7 +66,12 @@ settle-small bus cards =
 
 read-small : (line : List ℕ) → pictureIn line .refusal < wrongLength
 unfolding pictureIn
-read-small line = ⊎-elim (λ right. rw right (lit< tt)) (λ bad. rw bad (lit< tt)) (true-or-false (isDigits pictureDigits line))
+read-small line =
+    ⊎-elim
+    (λ right. rw right (lit< tt))
+    (λ bad.
+    rw bad (by-fault pictureDigits line (λ f. f .refusal < wrongLength) (λ right. lit< tt) (λ other. lit< tt) (λ size first. lit< tt)))
+    (true-or-false (isDigits pictureDigits line))
 
 -- so a number that is as large tells that a length was wrong
 told : (fits : Bool) {r n : ℕ} → (fits ≡ true → r ≡ n) → n < wrongLength → r ≡ wrongLength → fits ≡ false

@@ -14,7 +14,7 @@ use Rattle.pins.specs.ReadAgain.{pictureIn}
 use Rattle.pins.proofs.ReadBack.{bad-picture-refused}
 use Rattle.s100_c.specs.Layout.{answerSize, answerBytes, answerIn}
 use Rattle.s100_c.specs.Pictures.{pictureFits, seenSize}
-use Rattle.s100_c.specs.Promises.{PictureIsThePicture, PictureMisfits, PictureReadIsThePicture, PictureReadKeeps}
+use Rattle.s100_c.specs.Promises.{PictureIsThePicture, PictureMisfits, PictureReadIsThePicture, PictureReadRefused}
 use Rattle.s100_c.proofs.ReadBack.{answer-bytes-read-back}
 
 pub picture-is-the-picture : PictureIsThePicture
@@ -35,8 +35,11 @@ picture-misfits kind address answer place wrong = rw (misfit (pictureFits answer
 pub picture-read-is-the-picture : PictureReadIsThePicture
 picture-read-is-the-picture line place phase signals lines long is = rw (eq-eqb (length place) seenSize long, is) (refl, refl)
 
-pub picture-read-keeps : PictureReadKeeps
-picture-read-keeps line place = (
-  λ bad long. rw (eq-eqb (length place) seenSize long, bad-picture-refused line bad) (refl, refl),
-  λ wrong. rw (ne-eqb (length place) seenSize wrong) (refl, refl),
+pub picture-read-refused : PictureReadRefused
+picture-read-refused line place = (
+  λ other long. rw (eq-eqb (length place) seenSize long, bad-picture-refused line .0 other) (refl, refl),
+  (
+    λ column size first long. rw (eq-eqb (length place) seenSize long, bad-picture-refused line .1 column size first) (refl, refl),
+    λ wrong. rw (ne-eqb (length place) seenSize wrong) (refl, refl),
+  ),
 )

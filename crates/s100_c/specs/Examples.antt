@@ -159,10 +159,13 @@ pub record PictureCalls : Type 0 where
   pub refusedLeaves : pictureLeaves 0x03 0 refusedAnswer (replicate 102 0x55) ≡ replicate 102 0x55
   pub shortAnswers : pictureAnswers 0x0F 0 freeAnswer (replicate 101 0x55) ≡ wrongLength
   pub shortLeaves : pictureLeaves 0x0F 0 freeAnswer (replicate 101 0x55) ≡ replicate 101 0x55
-  pub readAgain : readAnswers (take 50 idleLine) (replicate 3 0x55) ≡ Refusal.accepted
-  pub readLeft : readLeaves (take 50 idleLine) (replicate 3 0x55) ≡ 0 ∷ 0 ∷ 0 ∷ []
+  pub readAgain : readAnswers (take 50 idleLine) (replicate 4 0x55) ≡ Refusal.accepted
+  pub readLeft : readLeaves (take 50 idleLine) (replicate 4 0x55) ≡ 0 ∷ 0 ∷ 0 ∷ 0 ∷ []
   -- with its newline it is no line of fifty digits
-  pub badRead : readAnswers idleLine (replicate 3 0x55) ≡ Refusal.badLine
-  pub badLeft : readLeaves idleLine (replicate 3 0x55) ≡ replicate 3 0x55
-  pub shortRead : readAnswers (take 50 idleLine) (replicate 2 0x55) ≡ wrongLength
-  pub shortLeft : readLeaves (take 50 idleLine) (replicate 2 0x55) ≡ replicate 2 0x55
+  pub longRead : readAnswers idleLine (replicate 4 0x55) ≡ Refusal.wrongLineLength
+  pub longLeft : readLeaves idleLine (replicate 4 0x55) ≡ 0 ∷ 0 ∷ 0 ∷ 0 ∷ []
+  -- the newline in the place of the last digit
+  pub badRead : readAnswers (take 49 idleLine ++ 0x0A ∷ []) (replicate 4 0x55) ≡ Refusal.wrongCharacter
+  pub badLeft : readLeaves (take 49 idleLine ++ 0x0A ∷ []) (replicate 4 0x55) ≡ 0 ∷ 0 ∷ 0 ∷ 50 ∷ []
+  pub shortRead : readAnswers (take 50 idleLine) (replicate 3 0x55) ≡ wrongLength
+  pub shortLeft : readLeaves (take 50 idleLine) (replicate 3 0x55) ≡ replicate 3 0x55

@@ -6,7 +6,7 @@ use lib.Dec.{eqb}
 use lib.ListN.{length}
 use lib.Seq.{sets}
 use Rattle.words.specs.Parts.{Part, widthsOf, total, laidOut}
-use Rattle.bus.specs.Refusal.{accepted, wrongLength}
+use Rattle.bus.specs.Refusal.{wrongLength}
 use Rattle.judgement.specs.Table.{eventOf}
 use Rattle.pins.specs.Picture.{mostPictured, picturesOf}
 use Rattle.pins.specs.ReadAgain.{pictureIn}
@@ -32,7 +32,7 @@ pictureLeaves kind address answer place = cond (pictureFits answer place) (sets 
 -- ---- Read again
 
 abbrev pub seenLayout : List (Part Seen)
-seenLayout = inOne (λ s. s .phase) ∷ inOne (λ s. s .signals) ∷ inOne (λ s. s .lines) ∷ []
+seenLayout = inOne (λ s. s .phase) ∷ inOne (λ s. s .signals) ∷ inOne (λ s. s .lines) ∷ inOne (λ s. s .column) ∷ []
 
 abbrev pub seenSize : ℕ
 seenSize = total (widthsOf seenLayout)
@@ -46,6 +46,6 @@ isSeen place = eqb (length place) seenSize
 abbrev pub readAnswers : List ℕ → List ℕ → ℕ
 readAnswers line place = cond (isSeen place) (pictureIn line .refusal) wrongLength
 
--- a refused line leaves the place alone
+-- of a refused line too, so that no column of an earlier line stays
 abbrev pub readLeaves : List ℕ → List ℕ → List ℕ
-readLeaves line place = cond (isSeen place && eqb (pictureIn line .refusal) accepted) (seenBytes (pictureIn line)) place
+readLeaves line place = cond (isSeen place) (seenBytes (pictureIn line)) place

@@ -17,7 +17,7 @@ use Rattle.judgement.specs.declared.event.Event.{Event}
 use Rattle.events.specs.Step.{after, answerTo}
 use Rattle.events.specs.declared.answers.Answer.{Answer}
 use Rattle.runs.specs.Run.{afterAll}
-use Rattle.text.specs.Digits.{isDigits}
+use Rattle.text.specs.Promises.{FirstWrong}
 use Rattle.pins.specs.Picture.{picturesOf}
 use Rattle.pins.specs.ReadAgain.{seen, pictureIn}
 use Rattle.s100_c.specs.Layout.{stateSize, isState, stateBytes, busIn, answerSize, answerBytes, answerIn}
@@ -151,15 +151,17 @@ PictureMisfits =
     (kind address : ℕ) (answer place : List ℕ) → ((length answer ≡ 9) × (length place ≡ 102) → ⊥)
     → (pictureAnswers kind address answer place ≡ wrongLength) × (pictureLeaves kind address answer place ≡ place)
 
--- A line that is read leaves phase, signals and priority lines in a place of three bytes,
+-- A line that is read leaves phase, signals, priority lines and no column in a place of four bytes,
 abbrev pub PictureReadIsThePicture : Type 0
 PictureReadIsThePicture =
-    (line place : List ℕ) (phase signals lines : ℕ) → length place ≡ 3 → pictureIn line ≡ seen 0 phase signals lines
-    → (readAnswers line place ≡ 0) × (readLeaves line place ≡ phase ∷ signals ∷ lines ∷ [])
+    (line place : List ℕ) (phase signals lines : ℕ) → length place ≡ 4 → pictureIn line ≡ seen phase signals lines
+    → (readAnswers line place ≡ 0) × (readLeaves line place ≡ phase ∷ signals ∷ lines ∷ 0 ∷ [])
 
--- a refused one leaves the place as it was, and so does a place of another length.
-abbrev pub PictureReadKeeps : Type 0
-PictureReadKeeps =
+-- one of a wrong length zeros, and one with a wrong character zeros and the first column; a place of another length stays as it was.
+abbrev pub PictureReadRefused : Type 0
+PictureReadRefused =
     (line place : List ℕ)
-    → (isDigits 50 line ≡ false → length place ≡ 3 → (readAnswers line place ≡ 0x0C) × (readLeaves line place ≡ place))
-    × ((length place ≡ 3 → ⊥) → (readAnswers line place ≡ wrongLength) × (readLeaves line place ≡ place))
+    → ((length line ≡ 50 → ⊥) → length place ≡ 4 → (readAnswers line place ≡ 0x0C) × (readLeaves line place ≡ 0 ∷ 0 ∷ 0 ∷ 0 ∷ []))
+    × (((column : ℕ) → length line ≡ 50 → FirstWrong line column → length place ≡ 4
+    → (readAnswers line place ≡ 0x0D) × (readLeaves line place ≡ 0 ∷ 0 ∷ 0 ∷ column ∷ []))
+    × ((length place ≡ 4 → ⊥) → (readAnswers line place ≡ wrongLength) × (readLeaves line place ≡ place)))

@@ -17,7 +17,9 @@ const SEEN_SIGNALS_AT: usize = SEEN_PHASE_AT + 1;
 
 const SEEN_LINES_AT: usize = SEEN_SIGNALS_AT + 1;
 
-const SEEN_SIZE: usize = SEEN_LINES_AT + 1;
+const SEEN_COLUMN_AT: usize = SEEN_LINES_AT + 1;
+
+const SEEN_SIZE: usize = SEEN_COLUMN_AT + 1;
 
 #[no_mangle]
 pub extern "C" fn s100_picture(kind: u8, address: u32, answer: &[u8], lines: &mut [u8]) -> u8
@@ -44,11 +46,10 @@ pub extern "C" fn s100_read_picture(line: &[u8], seen: &mut [u8]) -> u8
 {
     if seen.len() == SEEN_SIZE {
         let read = picture_line(line);
-        if read.refusal == ACCEPTED {
-            seen[SEEN_PHASE_AT] = read.phase;
-            seen[SEEN_SIGNALS_AT] = read.signals;
-            seen[SEEN_LINES_AT] = read.lines;
-        }
+        seen[SEEN_PHASE_AT] = read.phase;
+        seen[SEEN_SIGNALS_AT] = read.signals;
+        seen[SEEN_LINES_AT] = read.lines;
+        seen[SEEN_COLUMN_AT] = read.column;
         read.refusal
     } else {
         WRONG_LENGTH

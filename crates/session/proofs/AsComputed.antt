@@ -2,6 +2,7 @@
 use mathlib.Core.Path.{refl}
 use Rattle.words.specs.Below.{allBelow, orBelow}
 use Rattle.words.specs.Among.{everyListed, beside}
+use Rattle.words.specs.First.{leastBelow}
 use Rattle.lines.specs.Arbitration.{shown}
 use Rattle.phases.specs.Signal.{signalsIn}
 use Rattle.cards.specs.Cards.{someCard, isWithin}
@@ -13,16 +14,27 @@ use Rattle.session.specs.World.{saysBy, turnsBy, freshWorld}
 use Rattle.session.specs.Examples.{SetupOutputs, BadLineOutputs, PictureOutputs, FreshSession, CallRefusals}
 
 pub setup-outputs : SetupOutputs
-unfolding beside signalsIn everyListed allBelow orBelow shown numberAfter digitsOf linesAfter lastLine answersTo saysBy turnsBy freshWorld
-setup-outputs = record { accepted = refl; unended = refl; page = refl; tooShort = refl; lowerCase = refl; blank = refl }
+unfolding beside signalsIn everyListed allBelow leastBelow orBelow shown numberAfter digitsOf linesAfter lastLine answersTo saysBy turnsBy freshWorld
+setup-outputs = record {
+  accepted = refl;
+  unended = refl;
+  page = refl;
+  tooShort = refl;
+  lowerCase = refl;
+  shortLower = refl;
+  pageAndSpace = refl;
+  twoWrong = refl;
+  lowerUnended = refl;
+  blank = refl;
+}
 
 pub bad-line-outputs : BadLineOutputs
-unfolding beside signalsIn everyListed allBelow orBelow shown numberAfter digitsOf linesAfter lastLine answersTo saysBy turnsBy freshWorld
-bad-line-outputs = record { each = refl }
+unfolding beside signalsIn everyListed allBelow leastBelow orBelow shown numberAfter digitsOf linesAfter lastLine answersTo saysBy turnsBy freshWorld
+bad-line-outputs = record { each = refl; misspelt = refl; returns = refl; cut = refl }
 
 pub picture-outputs : PictureOutputs
-unfolding beside signalsIn everyListed allBelow orBelow shown numberAfter digitsOf linesAfter lastLine answersTo saysBy turnsBy freshWorld
-picture-outputs = record { setUp = refl; bad = refl; refused = refl }
+unfolding beside signalsIn everyListed allBelow leastBelow orBelow shown numberAfter digitsOf linesAfter lastLine answersTo saysBy turnsBy freshWorld
+picture-outputs = record { setUp = refl; bad = refl; misspelt = refl; refused = refl; refusedLower = refl }
 
 pub fresh-session : FreshSession
 fresh-session = record { waits = refl; noCards = refl; noPages = refl }

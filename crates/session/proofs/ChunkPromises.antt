@@ -77,7 +77,7 @@ calls-go-on wanted w size text has room = rw (taken-next (answering wanted) size
 says-some : (w : World) (line : List ℕ) → (w .session .stage ≡ Awaiting) ⊎ (w .session .stage ≡ Running) → 0 < length (says Answers w line)
 unfolding saysBy
 says-some w line =
-    ⊎-elim (λ e. rw e (omega (arith, answer-long (setupAnswer (setUpBy (setupIn line))))))
+    ⊎-elim (λ e. rw e (omega (arith, answer-long (setupAnswer (setupIn line .fault) (setUpBy (setupIn line))))))
     (λ e. rw e (event-answered (machineOf w) line))
 
 pub calls-answer : CallsAnswer

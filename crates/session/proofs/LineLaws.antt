@@ -11,14 +11,12 @@ use lib.Seq.{sets, take-at}
 use borrow.Author.Tests.{eqb-true}
 use Rattle.words.specs.Among.{everyListed}
 use Rattle.words.proofs.TestLaws.{true-or-false, both-of}
-use Rattle.bus.specs.Refusal.{badLine}
 use Rattle.bus.specs.Sense.{makesSense}
 use Rattle.bus.specs.declared.state.Bus.{Bus}
 use Rattle.bus.specs.declared.state.SetupAnswer.{SetupAnswer}
 use Rattle.judgement.specs.Refusals.{hasWrongBuffers}
 use Rattle.judgement.specs.declared.event.Event.{Event}
 use Rattle.events.specs.Machine.{Machine, machine}
-use Rattle.events.specs.Answers.{bare}
 use Rattle.events.specs.Step.{after, answerTo, soundAfter, soundAnswer, stepped}
 use Rattle.events.specs.declared.answers.Answer.{Answer}
 use Rattle.events.specs.declared.answers.Stepped.{Stepped}
@@ -26,11 +24,13 @@ use Rattle.events.proofs.Refused.{sound-step-is-the-step}
 use Rattle.text.specs.Digits.{isDigit}
 use Rattle.text.specs.Newlines.{newline, hasNewline, firstLine, restOf}
 use Rattle.text.specs.Frames.{eventDigits, setupIn, nextLine}
+use Rattle.text.specs.declared.frames.BadLine.{BadLine}
 use Rattle.text.specs.declared.frames.Line.{Line}
+use Rattle.text.specs.declared.frames.SetupLine.{SetupLine}
 use Rattle.text.specs.Reading.{Taken}
-use Rattle.text.proofs.NewlineLaws.{splits, unended, line-within}
+use Rattle.text.proofs.NewlineLaws.{ends-within, ends-beyond, line-front}
 use Rattle.text.proofs.FrameLaws.{Framed, framed, Spoilt, spoilt, not-ended}
-use Rattle.session.specs.World.{World, world, replyAs, eventAs, saysBy, turnsBy, setUpBy, setupAnswer, stageAfter}
+use Rattle.session.specs.World.{World, world, replyAs, eventAs, saysBy, turnsBy, setUpBy, setupAnswer, stageAfter, faultAnswer}
 use Rattle.session.specs.Feeding.{takesFirst, linesTaken, told}
 use Rattle.session.specs.declared.state.Stage.{Stage}
 use Rattle.session.specs.declared.state.Stage.the-variants.{Awaiting, Running, Ended}
@@ -49,22 +49,6 @@ running m = world Running (m .bus) (m .memory) (m .ports)
 abbrev leaves : List ℕ → Machine → List ℕ → ℕ → Taken World
 leaves text left bytes size = record { state = running left; said = bytes; used = size; rest = restOf text }
 
--- ---- Where a line ends
-
--- the first line stands at the front
-line-front : (text : List ℕ) → hasNewline text ≡ true → take (length (firstLine text)) text ≡ firstLine text
-line-front text has =
-    ap (take (length (firstLine text))) (splits text has) ∙ take-at (firstLine text) (newline ∷ restOf text) (length (firstLine text)) refl
-
--- the code asks for a newline by where the line ends
-ends-within : (text : List ℕ) (end : ℕ) → end ≡ length (firstLine text) → end < length text → hasNewline text ≡ true
-ends-within text end e within =
-    ⊎-elim (λ has. has) (λ none. absurd (omega (arith, e, within, ap length (unended text none)))) (true-or-false (hasNewline text))
-
-ends-beyond : (text : List ℕ) (end : ℕ) → end ≡ length (firstLine text) → length text ≤ end → hasNewline text ≡ false
-ends-beyond text end e beyond =
-    ⊎-elim (λ has. absurd (omega (arith, e, beyond, line-within text has))) (λ none. none) (true-or-false (hasNewline text))
-
 module _ (wanted : Wanted) where
   -- ---- Event lines
 
@@ -77,12 +61,12 @@ module _ (wanted : Wanted) where
       (both-of (eqb (length (firstLine text)) eventDigits) (everyListed isDigit (firstLine text)) (f .right) .0) in
       rw (f .has, f .right, f .same, size) refl
 
-  event-spoilt : (m : Machine) (text : List ℕ) (size : ℕ) → Spoilt text size
-      → takesFirst wanted (running m) text ≡ leaves text m (replyAs wanted (bare badLine)) (size + 1)
+  event-spoilt : (m : Machine) (text : List ℕ) (bad : BadLine) → Spoilt text bad
+      → takesFirst wanted (running m) text ≡ leaves text m (replyAs wanted (faultAnswer (bad .fault))) (bad .size + 1)
   unfolding saysBy turnsBy
-  event-spoilt m text size f =
-      let one : suc (length (firstLine text)) ≡ size + 1 = omega (arith, f .same) in
-      rw (f .has, f .wrong, one) refl
+  event-spoilt m text bad f =
+      let one : suc (length (firstLine text)) ≡ length (firstLine text) + 1 = omega arith in
+      rw (f .has, f .wrong, f .same, one) refl
 
   -- such a line was taken, where these bytes were put
   line-as : (t : Taken World) (text out : List ℕ) (left : Machine) (bytes : List ℕ) (size : ℕ) → t ≡ leaves text left bytes size
@@ -112,12 +96,12 @@ module _ (wanted : Wanted) where
         (count ∙ ap (λ (x : Stepped). length (eventAs wanted event (x .answer))) same)
         (put ∙ ap (λ (x : Stepped). sets out 0 (eventAs wanted event (x .answer))) same))
 
-    pub bad-taken : (size : ℕ) → Line.Bad size ≡ nextLine rest → (a : Answer) → a ≡ bare badLine
+    pub bad-taken : (bad : BadLine) → Line.Bad bad ≡ nextLine rest → (a : Answer) → a ≡ faultAnswer (bad .fault)
         → written ≡ length (replyAs wanted a) → out' ≡ sets out 0 (replyAs wanted a)
-        → TakenAs (takesFirst wanted (world Running bus m p) rest) out (told Running bus (size + 1) written) out' m p
-    bad-taken size e a is count put =
-        line-as (takesFirst wanted (world Running bus m p) rest) rest out (machine bus m p) (replyAs wanted (bare badLine)) (size + 1)
-        (event-spoilt (machine bus m p) rest size (spoilt rest size e)) written out' (count ∙ ap (λ (x : Answer). length (replyAs wanted x)) is)
+        → TakenAs (takesFirst wanted (world Running bus m p) rest) out (told Running bus (bad .size + 1) written) out' m p
+    bad-taken bad e a is count put =
+        line-as (takesFirst wanted (world Running bus m p) rest) rest out (machine bus m p) (replyAs wanted (faultAnswer (bad .fault))) (bad .size + 1)
+        (event-spoilt (machine bus m p) rest bad (spoilt rest bad e)) written out' (count ∙ ap (λ (x : Answer). length (replyAs wanted x)) is)
         (put ∙ ap (λ (x : Answer). sets out 0 (replyAs wanted x)) is)
 
   -- no line has ended
@@ -138,16 +122,15 @@ module _ (wanted : Wanted) where
       × ((m p : List ℕ) → out' ≡ sets out 0 (takesFirst wanted (world stage bus m p) text .said))
 
   pub setup-taken : (bus : Bus) (text out : List ℕ) (end : ℕ) → end ≡ length (firstLine text) → end < length text
-      → (given : SetupAnswer) (written : ℕ) (out' : List ℕ) → given ≡ setUpBy (setupIn (take end text))
-      → written ≡ length (replyAs wanted (setupAnswer given)) → out' ≡ sets out 0 (replyAs wanted (setupAnswer given))
+      → (line : SetupLine) (given : SetupAnswer) (written : ℕ) (out' : List ℕ) → line ≡ setupIn (take end text) → given ≡ setUpBy line
+      → written ≡ length (replyAs wanted (setupAnswer (line .fault) given)) → out' ≡ sets out 0 (replyAs wanted (setupAnswer (line .fault) given))
       → TakenAlone Awaiting bus text out (told (stageAfter given) (given .bus) (end + 1) written) out'
   unfolding saysBy turnsBy
-  setup-taken bus text out end e within given written out' is count put =
+  setup-taken bus text out end e within line given written out' read is count put =
       let has = ends-within text end e within in
-      let line : take end text ≡ firstLine text = ap (λ (k : ℕ). take k text) e ∙ line-front text has in
       let size : suc (length (firstLine text)) ≡ end + 1 = omega (arith, e) in
-      let same : setUpBy (setupIn (firstLine text)) ≡ given = sym (is ∙ ap (λ (l : List ℕ). setUpBy (setupIn l)) line) in
-      rw (has, same, size, count) ((λ m p. refl), (λ m p. put))
+      let same : setupIn (firstLine text) ≡ line = sym (read ∙ ap setupIn (line-front text end e within)) in
+      rw (has, same, ← is, size, count) ((λ m p. refl), (λ m p. put))
 
   pub passed : (bus : Bus) (text : List ℕ) (end : ℕ) → end ≡ length (firstLine text) → end < length text → (m p : List ℕ)
       → told Ended bus (end + 1) 0 ≡ linesTaken (takesFirst wanted (world Ended bus m p) text)

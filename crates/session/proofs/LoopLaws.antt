@@ -10,18 +10,17 @@ use lib.Seq.{sets}
 use borrow.Rule.Slice.PartMut.{midOf, putMid}
 use Rattle.words.proofs.TestLaws.{true-or-false}
 use Rattle.bus.specs.declared.state.Bus.{Bus}
-use Rattle.bus.specs.Refusal.{badLine}
 use Rattle.events.specs.Machine.{Machine}
-use Rattle.events.specs.Answers.{bare}
 use Rattle.events.specs.Step.{answerTo}
 use Rattle.text.specs.Digits.{isDigits}
+use Rattle.text.specs.Faults.{faultOf}
 use Rattle.text.specs.Frames.{eventDigits, eventIn, setupIn}
 use Rattle.text.specs.Newlines.{hasNewline, firstLine}
 use Rattle.text.specs.Reading.{Taken, lineOff}
 use Rattle.text.proofs.ReadingLaws.{answer-long}
 use Rattle.text.proofs.TakingLaws.{Going, Gone, going-start, going-on, gone-unended, gone-full, some-line, no-line, line-used, part-behind, home}
 use Rattle.pins.proofs.DigitLaws.{pictures-fit}
-use Rattle.session.specs.World.{World, world, saysBy, says, turns, mostSaid, answering, eventSaid, machineOf, setupAnswer, setUpBy}
+use Rattle.session.specs.World.{World, world, saysBy, says, turns, mostSaid, answering, eventSaid, machineOf, setupAnswer, setUpBy, faultAnswer}
 use Rattle.session.specs.Feeding.{takes, takesFirst, told}
 use Rattle.session.specs.Promises.{SaysAtMost}
 use Rattle.session.specs.declared.state.Stage.{Stage}
@@ -43,13 +42,15 @@ event-at-most wanted m line = go wanted (isDigits eventDigits line) refl
   where
     go : (wanted : Wanted) (right : Bool) → isDigits eventDigits line ≡ right → length (eventSaid wanted m line) ≤ mostSaid wanted
     go Answers true e = rw e (omega (arith, answer-long (answerTo m (eventIn line))))
-    go Answers false e = rw e (omega (arith, answer-long (bare badLine)))
+    go Answers false e = rw e (omega (arith, answer-long (faultAnswer (faultOf eventDigits line))))
     go Pictures true e = rw e (pictures-fit (eventIn line) (answerTo m (eventIn line)))
     go Pictures false e = rw e (omega arith)
 
 pub event-answered : (m : Machine) (line : List ℕ) → 0 < length (eventSaid Answers m line)
 event-answered m line =
-    ⊎-elim (λ right. rw right (omega (arith, answer-long (answerTo m (eventIn line))))) (λ wrong. rw wrong (omega (arith, answer-long (bare badLine))))
+    ⊎-elim
+    (λ right. rw right (omega (arith, answer-long (answerTo m (eventIn line)))))
+    (λ wrong. rw wrong (omega (arith, answer-long (faultAnswer (faultOf eventDigits line)))))
     (true-or-false (isDigits eventDigits line))
 
 -- for a line no more is written than the most
@@ -58,7 +59,7 @@ unfolding saysBy
 says-at-most wanted w line = go (w .session .stage) refl wanted
   where
     go : (stage : Stage) → w .session .stage ≡ stage → (wanted : Wanted) → length (says wanted w line) ≤ mostSaid wanted
-    go Awaiting e Answers = rw e (omega (arith, answer-long (setupAnswer (setUpBy (setupIn line)))))
+    go Awaiting e Answers = rw e (omega (arith, answer-long (setupAnswer (setupIn line .fault) (setUpBy (setupIn line)))))
     go Awaiting e Pictures = rw e (omega arith)
     go Running e wanted = rw e (event-at-most wanted (machineOf w) line)
     go Ended e wanted = rw e (omega arith)

@@ -13,6 +13,7 @@ use borrow.Author.Tests.{eqb-true, eq-eqb, ne-eqb, le-leb}
 use Rattle.words.specs.Below.{orBelow}
 use Rattle.words.specs.Among.{everyListed, beside}
 use Rattle.words.proofs.TestLaws.{true-or-false, both-of}
+use Rattle.words.proofs.ListLaws.{every-at}
 use Rattle.lines.specs.Arbitration.{shown}
 use Rattle.phases.specs.Phase as Phase
 use Rattle.phases.specs.Signal.{signalsIn}
@@ -24,27 +25,32 @@ use Rattle.bus.specs.Setup.{emptyBus}
 use Rattle.bus.specs.declared.state.Bus.{Bus}
 use Rattle.bus.specs.declared.state.SetupAnswer.{SetupAnswer}
 use Rattle.events.specs.Machine.{Machine, machine}
-use Rattle.events.specs.Answers.{answerWith, bare}
+use Rattle.events.specs.Answers.{answerWith}
 use Rattle.judgement.specs.declared.event.Event.{Event}
 use Rattle.events.specs.Step.{refusalIn, answerTo}
 use Rattle.events.proofs.Refused.{refused-keeps, answers-refusal}
 use Rattle.text.specs.Digits.{isDigit, isDigits, valueOf, digitsOf}
-use Rattle.text.specs.Newlines.{lastLine, linesAfter, textLines}
+use Rattle.text.specs.Faults.{faultOf}
+use Rattle.text.specs.Newlines.{newline, lastLine, linesAfter, textLines}
 use Rattle.text.specs.Frames.{eventDigits, eventIn, setupDigits, longest, setupIn, digitsFrom, pagesIn, chassisIn}
 use Rattle.text.specs.AnswerLine.{answerLine, answerLength}
+use Rattle.text.specs.Promises.{FirstWrong}
 use Rattle.text.specs.Reading.{answersTo, mostHeld}
 use Rattle.text.specs.declared.frames.SetupLine.{SetupLine}
+use Rattle.text.proofs.DigitLaws.{digit-kinds, value-flat}
+use Rattle.text.proofs.FaultLaws.{wrong-first}
 use Rattle.text.proofs.ReadingLaws.{answer-long}
 use Rattle.pins.proofs.DigitLaws.{no-picture}
-use Rattle.session.specs.World.{World, world, says, turns, saysBy, turnsBy, setUpBy, setupAnswer, afterEvent, freshWorld}
+use Rattle.session.specs.World.{World, world, says, turns, saysBy, turnsBy, setUpBy, setupAnswer, faultAnswer, afterEvent, freshWorld}
 use Rattle.session.specs.Output.{answers}
-use Rattle.session.specs.Promises.{EventTakesItsStep, BadLineAnswers, LinePictured, RefusedLineKeeps, AcceptedSetupLeads, RefusedSetupEnds}
+use Rattle.session.specs.Promises.{EventTakesItsStep, WrongLengthAnswers, WrongCharacterAnswers, LinePictured, RefusedLineKeeps}
+use Rattle.session.specs.Promises.{AcceptedSetupLeads, SetupInOrder, RefusedSetupEnds}
 use Rattle.session.specs.Promises.{EndedStays, CutChangesNothing, EmptyPrintsNothing, OneAnswerALine, StartsAtZero, setupNumber, answered}
 use Rattle.session.specs.declared.state.Stage.{Stage}
 use Rattle.session.specs.declared.state.Stage.the-variants.{Awaiting, Running, Ended}
 use Rattle.session.specs.declared.state.Wanted.{Wanted}
 use Rattle.session.specs.declared.state.Wanted.the-variants.{Answers, Pictures}
-use Rattle.bus.proofs.SetUp.{setup-accepts}
+use Rattle.bus.proofs.SetUp.{setup-accepts, setup-refuses}
 
 -- ---- Events
 
@@ -52,9 +58,14 @@ pub event-takes-its-step : EventTakesItsStep
 unfolding saysBy turnsBy
 event-takes-its-step m line right = rw right (refl, refl)
 
-pub bad-line-answers : BadLineAnswers
-unfolding saysBy
-bad-line-answers m line wrong = rw wrong refl
+pub wrong-length-answers : WrongLengthAnswers
+unfolding saysBy digitsOf
+wrong-length-answers m line other = rw (ne-eqb (length line) eventDigits other) refl
+
+pub wrong-character-answers : WrongCharacterAnswers
+unfolding saysBy digitsOf
+wrong-character-answers m line column size first =
+    let so = wrong-first line column first in rw (eq-eqb (length line) eventDigits size, so .0, so .1) refl
 
 -- a refused event is answered its number
 refused-number : (m : Machine) (event : Event) → (refusalIn m event ≡ Refusal.accepted → ⊥) → answerTo m event .refusal ≡ Refusal.accepted → ⊥
@@ -85,26 +96,28 @@ refused-line-keeps m line why = ap (λ (left : Machine). world Running (left .bu
 
 -- ---- Setup
 
+-- the code of a page is the value of its digit
+page-value : (line : List ℕ) (p : ℕ) → p < 16 → getD (pagesIn line) p 0 ≡ valueOf (getD line (4 + p) 0)
+page-value line p h =
+    List·getD-map valueOf (digitsFrom 4 16 line) p 0 ∙ ap valueOf (getD-take 16 (drop 4 line) p 0 h ∙ getD-drop 4 line p 0)
+
+sixteen : (line : List ℕ) → isDigits setupDigits line ≡ true → length (pagesIn line) ≡ 16
+sixteen line right =
+    let size = eqb-true (length line) setupDigits (both-of (eqb (length line) setupDigits) (everyListed isDigit line) right .0) in
+    length-map (digitsFrom 4 16 line) valueOf ∙ omega (arith, length-take 16 (drop 4 line), length-drop 4 line, size)
+
 module _ (line : List ℕ) (right : isDigits setupDigits line ≡ true) (low : (p : ℕ) → p < 16 → getD line (4 + p) 0 ≤ 0x32) where
   -- a digit of 0, 1 or 2 stands for itself
   low-value : (b : ℕ) → b ≤ 0x32 → valueOf b ≡ b - 0x30
   low-value b h = rw (le-leb b 0x39 (omega (arith, h))) refl
 
   page-at : (p : ℕ) → p < 16 → getD (pagesIn line) p 0 ≡ getD line (4 + p) 0 - 0x30
-  page-at p h =
-      List·getD-map valueOf (digitsFrom 4 16 line) p 0
-      ∙ ap valueOf (getD-take 16 (drop 4 line) p 0 h ∙ getD-drop 4 line p 0)
-      ∙ low-value (getD line (4 + p) 0) (low p h)
-
-  sixteen : length (pagesIn line) ≡ 16
-  sixteen =
-      let size = eqb-true (length line) setupDigits (both-of (eqb (length line) setupDigits) (everyListed isDigit line) right .0) in
-      length-map (digitsFrom 4 16 line) valueOf ∙ omega (arith, length-take 16 (drop 4 line), length-drop 4 line, size)
+  page-at p h = page-value line p h ∙ low-value (getD line (4 + p) 0) (low p h)
 
   set-up-as-written : setUpBy (setupIn line) ≡ record { answer = Refusal.accepted; bus = freeBus (chassisIn line) }
   set-up-as-written =
       let each : (p : ℕ) → p < length (pagesIn line) → getD (pagesIn line) p 0 ≤ 2 =
-      λ p h. omega (arith, page-at p (omega (arith, h, sixteen)), low p (omega (arith, h, sixteen))) in
+      λ p h. omega (arith, page-at p (omega (arith, h, sixteen line right)), low p (omega (arith, h, sixteen line right))) in
       rw right (
       let so = setup-accepts (chassisIn line) each in
       ap₂ (λ (n : ℕ) (bus : Bus). answered-with n bus) (so .0) (so .1))
@@ -129,7 +142,7 @@ accepted-setup-leads bus m p line right low = (
     running = refl;
     fitted = refl;
     pages = page-at line right low;
-    noMorePages = sixteen line right low;
+    noMorePages = sixteen line right;
     phase = refl;
     contenders = refl;
     driven = refl;
@@ -141,9 +154,9 @@ accepted-setup-leads bus m p line right low = (
 
 -- either refusal leaves an empty chassis
 refused-empty : (line : SetupLine) → (setUpBy line .answer ≡ Refusal.accepted → ⊥) → setUpBy line .bus ≡ emptyBus
-refused-empty line refused = go (eqb (line .refusal) Refusal.accepted) refl (codesKnown (line .chassis)) refl
+refused-empty line refused = go (eqb (line .fault .refusal) Refusal.accepted) refl (codesKnown (line .chassis)) refl
   where
-    go : (right : Bool) → eqb (line .refusal) Refusal.accepted ≡ right → (known : Bool) → codesKnown (line .chassis) ≡ known
+    go : (right : Bool) → eqb (line .fault .refusal) Refusal.accepted ≡ right → (known : Bool) → codesKnown (line .chassis) ≡ known
         → setUpBy line .bus ≡ emptyBus
     go true r true k = absurd (refused (rw (r, k) refl))
     go true r false k = rw (r, k) refl
@@ -160,25 +173,69 @@ unfolding turnsBy
 refused-turn bus m p line refused =
     rw (refused-empty (setupIn line) refused, ne-eqb (setupNumber line) Refusal.accepted refused) refl
 
-refused-says : (bus : Bus) (m p line : List ℕ) → (setupNumber line ≡ Refusal.accepted → ⊥)
-    → says Answers (world Awaiting bus m p) line ≡ answerLine (bare (setupNumber line))
-unfolding saysBy
-refused-says bus m p line refused = rw (ne-eqb (setupNumber line) Refusal.accepted refused) refl
-
 pub one-said : (wanted : Wanted) (w : World) (line : List ℕ) (lines : List (List ℕ))
     → answers wanted w (line ∷ lines) ≡ says wanted w line ++ answers wanted (turns w line) lines
 unfolding answersTo
 one-said wanted w line lines = refl
 
 pub refused-setup-ends : RefusedSetupEnds
-refused-setup-ends bus m p line lines refused = (
-  one-said Answers (world Awaiting bus m p) line lines
-      ∙ ap (λ (w : World). says Answers (world Awaiting bus m p) line ++ answers Answers w lines) (refused-turn bus m p line refused)
-      ∙ ap (λ (l : List ℕ). says Answers (world Awaiting bus m p) line ++ l) (ended-silent Answers emptyBus m p lines)
-      ∙ append-nil (says Answers (world Awaiting bus m p) line)
-      ∙ refused-says bus m p line refused,
+refused-setup-ends wanted bus m p line lines refused = (
+  one-said wanted (world Awaiting bus m p) line lines
+      ∙ ap (λ (w : World). says wanted (world Awaiting bus m p) line ++ answers wanted w lines) (refused-turn bus m p line refused)
+      ∙ ap (λ (l : List ℕ). says wanted (world Awaiting bus m p) line ++ l) (ended-silent wanted emptyBus m p lines)
+      ∙ append-nil (says wanted (world Awaiting bus m p) line),
   refused-turn bus m p line refused,
 )
+
+-- ---- The order in which a setup line is judged
+
+-- a page digit above 2 is a page code above 2
+high-value : (b : ℕ) → isDigit b ≡ true → 0x32 < b → 2 < valueOf b
+high-value b is h =
+    ⊎-elim (λ low. omega (arith, value-flat b is, low .1, h)) (λ high. omega (arith, value-flat b is, high .0, high .1)) (digit-kinds b is)
+
+module _ (bus : Bus) (m p line : List ℕ) (lines : List (List ℕ)) where
+  -- what is answered in all, where the number and the answer are known
+  ends-with : (number : ℕ) (text : List ℕ) → setupNumber line ≡ number → (number ≡ Refusal.accepted → ⊥)
+      → says Answers (world Awaiting bus m p) line ≡ text → answers Answers (world Awaiting bus m p) (line ∷ lines) ≡ text
+  ends-with number text is refused said = refused-setup-ends Answers bus m p line lines (λ e. refused (sym is ∙ e)) .0 ∙ said
+
+  length-judged : (length line ≡ 20 → ⊥)
+      → answers Answers (world Awaiting bus m p) (line ∷ lines) ≡ 0x30 ∷ 0x43 ∷ replicate 16 0x30 ++ newline ∷ []
+  unfolding saysBy digitsOf
+  length-judged other =
+      let wrong = ne-eqb (length line) setupDigits other in
+      ends-with Refusal.wrongLineLength _ (rw (wrong, setupNumber) refl) (λ e. omega (arith, e)) (rw wrong refl)
+
+  characters-judged : (column : ℕ) → length line ≡ 20 → FirstWrong line column
+      → answers Answers (world Awaiting bus m p) (line ∷ lines) ≡ 0x30 ∷ 0x44 ∷ replicate 12 0x30 ++ digitsOf 4 column ++ newline ∷ []
+  unfolding saysBy digitsOf
+  characters-judged column size first =
+      let long = eq-eqb (length line) setupDigits size in
+      let so = wrong-first line column first in
+      ends-with Refusal.wrongCharacter _ (rw (long, so .0, setupNumber) refl) (λ e. omega (arith, e)) (rw (long, so .0, so .1) refl)
+
+  -- the code of a page whose digit is above 2
+  high-page : (n : ℕ) → n < 16 → isDigits setupDigits line ≡ true → 0x32 < getD line (4 + n) 0 → 2 < getD (pagesIn line) n 0
+  high-page n h right above =
+      let both = both-of (eqb (length line) setupDigits) (everyListed isDigit line) right in
+      let size = eqb-true (length line) setupDigits (both .0) in
+      let is = every-at isDigit line (both .1) (4 + n) (omega (arith, size, h)) in
+      omega (arith, page-value line n h, high-value (getD line (4 + n) 0) is above)
+
+  pages-judged : (n : ℕ) → n < 16 → isDigits 20 line ≡ true → 0x32 < getD line (4 + n) 0
+      → answers Answers (world Awaiting bus m p) (line ∷ lines) ≡ 0x30 ∷ 0x42 ∷ replicate 16 0x30 ++ newline ∷ []
+  unfolding saysBy digitsOf
+  pages-judged n h right above =
+      let so = setup-refuses (chassisIn line) n (omega (arith, h, sixteen line right)) (high-page n h right above) in
+      ends-with Refusal.badPage _ (rw (right, setupNumber) (so .0)) (λ e. omega (arith, e)) (rw (right, so .0) refl)
+
+pub setup-in-order : SetupInOrder
+setup-in-order bus m p line lines = record {
+  wrongLength = length-judged bus m p line lines;
+  wrongCharacter = characters-judged bus m p line lines;
+  badPage = pages-judged bus m p line lines;
+}
 
 pub ended-stays : EndedStays
 unfolding saysBy turnsBy
@@ -186,9 +243,9 @@ ended-stays wanted w line e = rw e (refl, refl)
 
 -- ---- What lies beyond the longest right line
 
--- a line longer than that is wrong, cut or not
-too-long : (count : ℕ) (line : List ℕ) → count ≤ longest → longest < length line → isDigits count line ≡ false
-too-long count line h long = rw (ne-eqb (length line) count (λ e. omega (arith, h, long, e))) refl
+-- a line longer than that has a wrong length, cut or not
+too-long : (count : ℕ) (line : List ℕ) → count ≤ longest → longest < length line → eqb (length line) count ≡ false
+too-long count line h long = ne-eqb (length line) count (λ e. omega (arith, h, long, e))
 
 cut-either : (P : List ℕ → List ℕ → Type 0) (line : List ℕ) → ((l : List ℕ) → P l l)
     → (longest < length (take mostHeld line) → longest < length line → P (take mostHeld line) line) → P (take mostHeld line) line
@@ -204,7 +261,7 @@ cut-setup line =
     (λ ha hb. rw (too-long setupDigits (take mostHeld line) (omega arith) ha, too-long setupDigits line (omega arith) hb) refl)
 
 cut-event : (P : List ℕ → Type 0) (line : List ℕ) → P line
-    → (isDigits eventDigits (take mostHeld line) ≡ false → isDigits eventDigits line ≡ false → P (take mostHeld line)) → P (take mostHeld line)
+    → (eqb (length (take mostHeld line)) eventDigits ≡ false → eqb (length line) eventDigits ≡ false → P (take mostHeld line)) → P (take mostHeld line)
 cut-event P line whole long =
     cut-either (λ a b. P b → P a) line (λ l p. p)
     (λ ha hb p. long (too-long eventDigits (take mostHeld line) (omega arith) ha) (too-long eventDigits line (omega arith) hb)) whole
@@ -217,7 +274,7 @@ cut-changes-nothing wanted w line = go (w .session .stage) refl
     go Awaiting e = rw (e, cut-setup line) (refl, refl)
     go Running e =
         rw e (cut-event (λ l. (saysBy wanted Running w l ≡ saysBy wanted Running w line) × (turnsBy Running w l ≡ turnsBy Running w line)) line (refl, refl)
-        (λ wrong bad. rw (wrong, bad) (refl, refl)))
+        (λ cut whole. rw (cut, whole) (refl, refl)))
     go Ended e = rw e (refl, refl)
 
 -- ---- The whole output
@@ -233,7 +290,9 @@ none-said wanted w = refl
 running-says : (bus : Bus) (m p line : List ℕ) → length (says Answers (world Running bus m p) line) ≡ answerLength
 unfolding saysBy
 running-says bus m p line =
-    ⊎-elim (λ right. rw right (answer-long (answerTo (machine bus m p) (eventIn line)))) (λ wrong. rw wrong (answer-long (bare Refusal.badLine)))
+    ⊎-elim
+    (λ right. rw right (answer-long (answerTo (machine bus m p) (eventIn line))))
+    (λ wrong. rw wrong (answer-long (faultAnswer (faultOf eventDigits line))))
     (true-or-false (isDigits eventDigits line))
 
 running-turn : (bus : Bus) (m p line : List ℕ) (lines : List (List ℕ))
@@ -258,7 +317,7 @@ accepted-turn bus m p line lines taken = rw (eq-eqb (setupNumber line) Refusal.a
 
 awaiting-says : (bus : Bus) (m p line : List ℕ) → length (says Answers (world Awaiting bus m p) line) ≡ answerLength
 unfolding saysBy
-awaiting-says bus m p line = answer-long (setupAnswer (setUpBy (setupIn line)))
+awaiting-says bus m p line = answer-long (setupAnswer (setupIn line .fault) (setUpBy (setupIn line)))
 
 awaiting-long : (bus : Bus) (m p : List ℕ) (lines : List (List ℕ))
     → length (answers Answers (world Awaiting bus m p) lines) ≡ answered lines * answerLength
@@ -275,7 +334,7 @@ awaiting-long bus m p (line ∷ lines) = go (ℕ-discrete (setupNumber line) Ref
         ∙ omega (arith, awaiting-says bus m p line, accepted-turn bus m p line lines taken))
     go (no refused) =
         rw (ne-eqb (setupNumber line) Refusal.accepted refused) (
-        ap length (refused-setup-ends bus m p line lines refused .0) ∙ answer-long (bare (setupNumber line)))
+        ap length (refused-setup-ends Answers bus m p line lines refused .0) ∙ awaiting-says bus m p line)
 
 pub one-answer-a-line : OneAnswerALine
 unfolding freshWorld

@@ -23,6 +23,7 @@ use Rattle.events.specs.Step.{after}
 use Rattle.events.proofs.Stays.{lengths-kept, sense-kept-by-events}
 use Rattle.text.specs.Digits.{isDigit, isDigits, valueOf}
 use Rattle.text.specs.Frames.{eventDigits, eventIn, setupDigits, setupIn, digitsFrom, pagesIn, chassisIn}
+use Rattle.text.proofs.FaultLaws.{some-fault}
 use Rattle.session.specs.World.{World, turns, turnsBy, setUpBy, afterEvent, machineOf, freshWorld}
 use Rattle.session.specs.Promises.{StaysSound, FreshIsSound}
 use Rattle.session.specs.declared.state.Stage.{Stage}
@@ -52,7 +53,7 @@ set-up-sense line =
     let pages : length (pagesIn line) ≡ 16 =
     length-map (digitsFrom 4 16 line) valueOf ∙ omega (arith, length-take 16 (drop 4 line), length-drop 4 line, size) in
     rw right (setup-makes-sense (chassisIn line) pages))
-    (λ (wrong : isDigits setupDigits line ≡ false). rw wrong empty-sense)
+    (λ (wrong : isDigits setupDigits line ≡ false). rw (wrong, some-fault setupDigits line wrong) empty-sense)
     (true-or-false (isDigits setupDigits line))
 
 -- ---- Events

@@ -3,14 +3,14 @@ use Prim.Native.Nat.{ℕ}
 use mathlib.Core.Path.{_≡_}
 use mathlib.Core.Bool.{false}
 use mathlib.Core.List.{List, [], _∷_, _++_}
-use lib.ListN.{replicate}
+use lib.ListN.{take, drop, replicate}
 use Rattle.phases.specs.Phase as Phase
 use Rattle.bus.specs.State.{nobody, silent, changed}
 use Rattle.bus.specs.Setup.{emptyBus}
 use Rattle.bus.specs.declared.state.Bus.{Bus}
 use Rattle.judgement.specs.Refusals.{hasWrongBuffers}
 use Rattle.text.specs.Newlines.{newline}
-use Rattle.text.specs.Examples.{setup}
+use Rattle.text.specs.Examples.{wordWrite, thirteen, lowerA, withIn, setup}
 use Rattle.session.specs.World.{fresh}
 use Rattle.session.specs.Feeding.{feedRefusal}
 use Rattle.session.specs.Output.{output}
@@ -27,7 +27,7 @@ short = 0x30 ∷ 0x30 ∷ 0x30 ∷ 0x41 ∷ 0x31 ∷ 0x32 ∷ 0x30 ∷ 0x30 ∷ 
 abbrev pub lower : List ℕ
 lower = 0x30 ∷ 0x30 ∷ 0x30 ∷ 0x61 ∷ 0x31 ∷ 0x32 ∷ 0x30 ∷ 0x30 ∷ 0x30 ∷ 0x30 ∷ 0x30 ∷ 0x30 ∷ 0x30 ∷ 0x30 ∷ 0x30 ∷ 0x30 ∷ 0x30 ∷ 0x30 ∷ 0x30 ∷ 0x30 ∷ []
 
--- answer lines: 0000FF000000000000, 0B and 0C with zeros
+-- answer lines: 0000FF000000000000, 0B and 0C with zeros, and 0D with zeros and two digits of a column
 abbrev pub freeLine : List ℕ
 freeLine = 0x30 ∷ 0x30 ∷ 0x30 ∷ 0x30 ∷ 0x46 ∷ 0x46 ∷ 0x30 ∷ 0x30 ∷ 0x30 ∷ 0x30 ∷ 0x30 ∷ 0x30 ∷ 0x30 ∷ 0x30 ∷ 0x30 ∷ 0x30 ∷ 0x30 ∷ 0x30 ∷ 0x0A ∷ []
 
@@ -37,6 +37,9 @@ pageRefused = 0x30 ∷ 0x42 ∷ 0x30 ∷ 0x30 ∷ 0x30 ∷ 0x30 ∷ 0x30 ∷ 0x3
 abbrev pub lineRefused : List ℕ
 lineRefused = 0x30 ∷ 0x43 ∷ 0x30 ∷ 0x30 ∷ 0x30 ∷ 0x30 ∷ 0x30 ∷ 0x30 ∷ 0x30 ∷ 0x30 ∷ 0x30 ∷ 0x30 ∷ 0x30 ∷ 0x30 ∷ 0x30 ∷ 0x30 ∷ 0x30 ∷ 0x30 ∷ 0x0A ∷ []
 
+abbrev pub characterRefused : ℕ → ℕ → List ℕ
+characterRefused high low = 0x30 ∷ 0x44 ∷ replicate 14 0x30 ++ high ∷ low ∷ 0x0A ∷ []
+
 pub record SetupOutputs : Type 0 where
   pub accepted : output Answers (setup ++ newline ∷ []) ≡ freeLine
   -- also where the end of the input ends the line
@@ -44,12 +47,23 @@ pub record SetupOutputs : Type 0 where
   -- Whatever follows a refused setup line is not answered.
   pub page : output Answers (page3 ++ newline ∷ setup ++ newline ∷ []) ≡ pageRefused
   pub tooShort : output Answers (short ++ newline ∷ setup ++ newline ∷ []) ≡ lineRefused
-  pub lowerCase : output Answers (lower ++ newline ∷ setup ++ newline ∷ []) ≡ lineRefused
+  pub lowerCase : output Answers (lower ++ newline ∷ setup ++ newline ∷ []) ≡ characterRefused 0x30 0x34
+  -- 0C before 0D, and 0D before 0B, though the page stands before the space in the last column; of two columns the first
+  pub shortLower : output Answers (take 19 lower ++ newline ∷ setup ++ newline ∷ []) ≡ lineRefused
+  pub pageAndSpace : output Answers (take 19 page3 ++ 0x20 ∷ newline ∷ setup ++ newline ∷ []) ≡ characterRefused 0x31 0x34
+  pub twoWrong : output Answers (take 19 lower ++ 0x20 ∷ newline ∷ setup ++ newline ∷ []) ≡ characterRefused 0x30 0x34
+  pub lowerUnended : output Answers lower ≡ characterRefused 0x30 0x34
   pub blank : output Answers (newline ∷ setup ++ newline ∷ []) ≡ lineRefused
 
 -- After setup each bad line has its answer: an empty one, one like a setup line, and an unended one.
 pub record BadLineOutputs : Type 0 where
   pub each : output Answers (setup ++ newline ∷ newline ∷ setup ++ newline ∷ 0x30 ∷ []) ≡ freeLine ++ lineRefused ++ lineRefused ++ lineRefused
+  -- the columns of wrong characters, each of its own line; a carriage return behind fourteen digits, and behind thirteen
+  pub misspelt : output Answers (setup ++ newline ∷ withIn 14 0x4F ++ newline ∷ lowerA ++ newline ∷ withIn 1 0x00)
+      ≡ freeLine ++ characterRefused 0x30 0x45 ++ characterRefused 0x30 0x32 ++ characterRefused 0x30 0x31
+  pub returns : output Answers (setup ++ newline ∷ wordWrite ++ 0x0D ∷ newline ∷ thirteen ++ 0x0D ∷ newline ∷ [])
+      ≡ freeLine ++ lineRefused ++ characterRefused 0x30 0x45
+  pub cut : output Answers (setup ++ newline ∷ drop 1 lowerA ++ newline ∷ []) ≡ freeLine ++ lineRefused
 
 -- ---- Pictures
 
@@ -61,7 +75,9 @@ resetFrame = 0x30 ∷ 0x46 ∷ replicate 12 0x30
 pub record PictureOutputs : Type 0 where
   pub setUp : output Pictures (setup ++ newline ∷ []) ≡ []
   pub bad : output Pictures (setup ++ newline ∷ newline ∷ setup ++ newline ∷ 0x30 ∷ []) ≡ []
+  pub misspelt : output Pictures (setup ++ newline ∷ lowerA ++ newline ∷ []) ≡ []
   pub refused : output Pictures (page3 ++ newline ∷ resetFrame ++ newline ∷ []) ≡ []
+  pub refusedLower : output Pictures (lower ++ newline ∷ resetFrame ++ newline ∷ []) ≡ []
 
 -- ---- A session before its first line, and the refusals of a call
 

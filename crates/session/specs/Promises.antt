@@ -12,12 +12,12 @@ use Rattle.bus.specs.Setup.{emptyBus}
 use Rattle.bus.specs.declared.state.Bus.{Bus}
 use Rattle.judgement.specs.Refusals.{hasWrongBuffers}
 use Rattle.events.specs.Machine.{Machine}
-use Rattle.events.specs.Answers.{bare}
 use Rattle.events.specs.Step.{refusalIn, after, answerTo}
-use Rattle.text.specs.Digits.{numberOf, isDigits}
+use Rattle.text.specs.Digits.{numberOf, digitsOf, isDigits}
 use Rattle.text.specs.Newlines.{newline, hasNewline, textLines}
 use Rattle.text.specs.Frames.{eventDigits, eventIn, setupIn, longest}
 use Rattle.text.specs.AnswerLine.{answerLine, answerLength}
+use Rattle.text.specs.Promises.{FirstWrong}
 use Rattle.text.specs.Reading.{heldOf}
 use Rattle.text.specs.Chunks.{wholeText}
 use Rattle.pins.specs.Picture.{picturesOf}
@@ -38,11 +38,17 @@ EventTakesItsStep =
     × (turns (world Running (m .bus) (m .memory) (m .ports)) line
     ≡ world Running (after m (eventIn line) .bus) (after m (eventIn line) .memory) (after m (eventIn line) .ports))
 
--- a line that is wrong in any way, whatever its length, is answered with 0C and zeros.
-abbrev pub BadLineAnswers : Type 0
-BadLineAnswers =
-    (m : Machine) (line : List ℕ) → isDigits eventDigits line ≡ false
-    → says Answers (world Running (m .bus) (m .memory) (m .ports)) line ≡ answerLine (bare Refusal.badLine)
+-- a line of another length, whatever its bytes are, is answered with 0C and zeros;
+abbrev pub WrongLengthAnswers : Type 0
+WrongLengthAnswers =
+    (m : Machine) (line : List ℕ) → (length line ≡ 14 → ⊥)
+    → says Answers (world Running (m .bus) (m .memory) (m .ports)) line ≡ 0x30 ∷ 0x43 ∷ replicate 16 0x30 ++ newline ∷ []
+
+-- one of this length with a wrong character with 0D, zeros, and in the last four digits the column of the first.
+abbrev pub WrongCharacterAnswers : Type 0
+WrongCharacterAnswers =
+    (m : Machine) (line : List ℕ) (column : ℕ) → length line ≡ 14 → FirstWrong line column
+    → says Answers (world Running (m .bus) (m .memory) (m .ports)) line ≡ 0x30 ∷ 0x44 ∷ replicate 12 0x30 ++ digitsOf 4 column ++ newline ∷ []
 
 -- Where pictures are wanted, an event's line has the pictures of the event, which a refused one doesn't have, and another line has none.
 pub record PicturedLine (m : Machine) (line : List ℕ) : Type 0 where
@@ -87,11 +93,24 @@ AcceptedSetupLeads =
     ≡ 0x30 ∷ 0x30 ∷ 0x30 ∷ 0x30 ∷ 0x46 ∷ 0x46 ∷ 0x30 ∷ 0x30 ∷ 0x30 ∷ 0x30 ∷ 0x30 ∷ 0x30 ∷ 0x30 ∷ 0x30 ∷ 0x30 ∷ 0x30 ∷ 0x30 ∷ 0x30 ∷ 0x0A ∷ [])
     × SetUpAsWritten line memory ports (turns (world Awaiting bus memory ports) line)
 
--- A refused setup line is answered by its number and zeros, and nothing after it; it leaves an empty chassis, and memory and ports alone.
+-- A setup line of another length is refused with 0C, whatever its bytes are; then one with a wrong character with 0D and the column of the first,
+-- whatever its pages are; and then one with a page above 2 with 0B. Nothing is answered after it.
+pub record SetupJudged (bus : Bus) (memory ports line : List ℕ) (lines : List (List ℕ)) : Type 0 where
+  pub wrongLength : (length line ≡ 20 → ⊥)
+      → answers Answers (world Awaiting bus memory ports) (line ∷ lines) ≡ 0x30 ∷ 0x43 ∷ replicate 16 0x30 ++ newline ∷ []
+  pub wrongCharacter : (column : ℕ) → length line ≡ 20 → FirstWrong line column
+      → answers Answers (world Awaiting bus memory ports) (line ∷ lines) ≡ 0x30 ∷ 0x44 ∷ replicate 12 0x30 ++ digitsOf 4 column ++ newline ∷ []
+  pub badPage : (n : ℕ) → n < 16 → isDigits 20 line ≡ true → 0x32 < getD line (4 + n) 0
+      → answers Answers (world Awaiting bus memory ports) (line ∷ lines) ≡ 0x30 ∷ 0x42 ∷ replicate 16 0x30 ++ newline ∷ []
+
+abbrev pub SetupInOrder : Type 0
+SetupInOrder = (bus : Bus) (memory ports line : List ℕ) (lines : List (List ℕ)) → SetupJudged bus memory ports line lines
+
+-- A refused setup line has one answer, and nothing after it has one; it leaves an empty chassis, and memory and ports alone.
 abbrev pub RefusedSetupEnds : Type 0
 RefusedSetupEnds =
-    (bus : Bus) (memory ports line : List ℕ) (lines : List (List ℕ)) → (setupNumber line ≡ Refusal.accepted → ⊥)
-    → (answers Answers (world Awaiting bus memory ports) (line ∷ lines) ≡ answerLine (bare (setupNumber line)))
+    (wanted : Wanted) (bus : Bus) (memory ports line : List ℕ) (lines : List (List ℕ)) → (setupNumber line ≡ Refusal.accepted → ⊥)
+    → (answers wanted (world Awaiting bus memory ports) (line ∷ lines) ≡ says wanted (world Awaiting bus memory ports) line)
     × (turns (world Awaiting bus memory ports) line ≡ world Ended emptyBus memory ports)
 
 -- Once a run has ended nothing is said, and no line changes anything.

@@ -12,13 +12,15 @@ use Rattle.bus.specs.declared.state.Bus.{Bus}
 use Rattle.bus.specs.declared.state.SetupAnswer.{SetupAnswer}
 use Rattle.judgement.specs.declared.event.Event.{Event}
 use Rattle.events.specs.Machine.{Machine, machine}
-use Rattle.events.specs.Answers.{answerWith, bare}
+use Rattle.events.specs.Answers.{answerWith, bareWith}
 use Rattle.events.specs.Step.{after, answerTo}
 use Rattle.events.specs.declared.answers.Answer.{Answer}
 use Rattle.text.specs.Digits.{isDigits}
+use Rattle.text.specs.Faults.{faultOf}
 use Rattle.text.specs.Frames.{eventDigits, eventIn, setupIn}
 use Rattle.text.specs.AnswerLine.{answerLine, answerLength}
 use Rattle.text.specs.Reading.{Reader}
+use Rattle.text.specs.declared.frames.Fault.{Fault}
 use Rattle.text.specs.declared.frames.SetupLine.{SetupLine}
 use Rattle.pins.specs.Picture.{mostPictured, picturesOf}
 use Rattle.session.specs.declared.state.Stage.{Stage}
@@ -47,12 +49,13 @@ refusedSetup refusal = record { answer = refusal; bus = emptyBus }
 
 -- a bad line is refused as such, and otherwise setup decides
 abbrev pub setUpBy : SetupLine → SetupAnswer
-setUpBy line = cond (eqb (line .refusal) Refusal.accepted) (setupOf (line .chassis)) (refusedSetup (line .refusal))
+setUpBy line = cond (eqb (line .fault .refusal) Refusal.accepted) (setupOf (line .chassis)) (refusedSetup (line .fault .refusal))
 
-abbrev pub setupAnswer : SetupAnswer → Answer
-setupAnswer given =
+-- behind a refusal there is nothing but the column of a wrong character
+abbrev pub setupAnswer : Fault → SetupAnswer → Answer
+setupAnswer fault given =
     cond (eqb (given .answer) Refusal.accepted) (answerWith Refusal.accepted (given .bus) (signalsIn (given .bus .phase)) 0 nothing)
-    (bare (given .answer))
+    (bareWith (given .answer) (fault .column))
 
 abbrev pub stageAfter : SetupAnswer → Stage
 stageAfter given = cond (eqb (given .answer) Refusal.accepted) Running Ended
@@ -69,11 +72,15 @@ abbrev pub eventAs : Wanted → Event → Answer → List ℕ
 eventAs Answers event answer = answerLine answer
 eventAs Pictures event answer = picturesOf event answer
 
--- ---- Event lines: 0C for a bad one, and otherwise the step of `events`
+-- ---- Event lines: what is wrong with a bad one (01, and 02, CR 2), and otherwise the step of `events`
+
+abbrev pub faultAnswer : Fault → Answer
+faultAnswer fault = bareWith (fault .refusal) (fault .column)
 
 abbrev pub eventSaid : Wanted → Machine → List ℕ → List ℕ
 eventSaid wanted m line =
-    cond (isDigits eventDigits line) (eventAs wanted (eventIn line) (answerTo m (eventIn line))) (replyAs wanted (bare Refusal.badLine))
+    cond (isDigits eventDigits line) (eventAs wanted (eventIn line) (answerTo m (eventIn line)))
+    (replyAs wanted (faultAnswer (faultOf eventDigits line)))
 
 abbrev pub afterEvent : Machine → List ℕ → Machine
 afterEvent m line = cond (isDigits eventDigits line) (after m (eventIn line)) m
@@ -81,7 +88,7 @@ afterEvent m line = cond (isDigits eventDigits line) (after m (eventIn line)) m
 -- ---- Any line
 
 unfoldable pub saysBy : Wanted → Stage → World → List ℕ → List ℕ
-saysBy wanted Awaiting w line = replyAs wanted (setupAnswer (setUpBy (setupIn line)))
+saysBy wanted Awaiting w line = replyAs wanted (setupAnswer (setupIn line .fault) (setUpBy (setupIn line)))
 saysBy wanted Running w line = eventSaid wanted (machineOf w) line
 saysBy wanted Ended w line = []
 

@@ -1,6 +1,6 @@
 // What is answered to an event.
 ghost use mathlib.Core.Path.{_≡_};
-ghost use Rattle.events.specs.Answers.{answerWith, signalsWith, wordSignals, bare};
+ghost use Rattle.events.specs.Answers.{answerWith, signalsWith, wordSignals, bareWith, bare};
 use bus::Bus;
 use events::Answer;
 use memory::Moved;
@@ -51,6 +51,13 @@ fn word_signals(kind: u8, slave: Slave) -> u8
 pub fn bare(refusal: u8) -> Answer
     ensures { λ r. ⌜ r ≡ bare refusal ⌝ }
 {
+    bare_with(refusal, 0)
+}
+
+// A number with nothing but a datum behind it.
+pub fn bare_with(refusal: u8, datum: u16) -> Answer
+    ensures { λ r. ⌜ r ≡ bareWith refusal datum ⌝ }
+{
     Answer {
         refusal: refusal,
         phase: 0,
@@ -59,6 +66,6 @@ pub fn bare(refusal: u8) -> Answer
         signals: 0,
         status: 0,
         cycles: 0,
-        datum: 0,
+        datum: datum,
     }
 }

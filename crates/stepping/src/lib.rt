@@ -4,6 +4,6 @@ mod cycles;
 mod steps;
 
 pub use answering::answer_with;
-pub use answering::bare;
+pub use answering::bare_with;
 pub use steps::sound_step;
 pub use steps::step;

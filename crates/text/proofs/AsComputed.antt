@@ -2,10 +2,11 @@
 use mathlib.Core.Path.{refl}
 use Rattle.words.specs.Below.{allBelow}
 use Rattle.words.specs.Among.{everyListed}
+use Rattle.words.specs.First.{leastBelow}
 use Rattle.text.specs.Digits.{numberAfter, digitsOf}
 use Rattle.text.specs.Newlines.{hasNewline, firstLine, restOf, linesAfter, lastLine}
 use Rattle.text.specs.Reading.{takenWithin}
-use Rattle.text.specs.Examples.{DigitsAndNeighbours, EventLines, SetupLines, AnswerInPlace, LinesOfTexts, Held, LinesWithRoom}
+use Rattle.text.specs.Examples.{DigitsAndNeighbours, EventLines, SetupLines, WrongLines, AnswerInPlace, LinesOfTexts, Held, LinesWithRoom}
 
 pub digits-and-neighbours : DigitsAndNeighbours
 digits-and-neighbours = record {
@@ -21,7 +22,7 @@ digits-and-neighbours = record {
 }
 
 pub event-lines : EventLines
-unfolding everyListed allBelow numberAfter hasNewline firstLine
+unfolding everyListed allBelow leastBelow numberAfter hasNewline firstLine
 event-lines = record {
   right = refl;
   event = refl;
@@ -30,14 +31,34 @@ event-lines = record {
   lower = refl;
   frame = refl;
   unended = refl;
-  bad = refl;
+  tooShort = refl;
   tooLong = refl;
+  misspelt = refl;
   empty = refl;
+  cut = refl;
 }
 
 pub setup-lines : SetupLines
-unfolding everyListed allBelow numberAfter
-setup-lines = record { right = refl; anEvent = refl; tooLong = refl }
+unfolding everyListed allBelow leastBelow numberAfter
+setup-lines = record { right = refl; anEvent = refl; tooLong = refl; misspelt = refl }
+
+pub wrong-lines : WrongLines
+unfolding everyListed allBelow leastBelow
+wrong-lines = record {
+  nothing = refl;
+  tooShort = refl;
+  carriageReturn = refl;
+  shortAndMisspelt = refl;
+  empty = refl;
+  first = refl;
+  middle = refl;
+  last = refl;
+  small = refl;
+  high = (refl, refl);
+  shortWithReturn = refl;
+  two = refl;
+  all = refl;
+}
 
 pub answer-in-place : AnswerInPlace
 unfolding digitsOf

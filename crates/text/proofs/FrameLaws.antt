@@ -12,15 +12,17 @@ use borrow.Author.Tests.{eqb-true, eq-eqb, ne-eqb}
 use Rattle.words.specs.Among.{everyListed}
 use Rattle.words.proofs.TestLaws.{true-or-false, tests-same, both-of}
 use Rattle.words.proofs.ListLaws.{every-at}
-use Rattle.bus.specs.Refusal.{badLine}
 use Rattle.judgement.specs.declared.event.Event.{Event}
+use Rattle.text.specs.declared.frames.BadLine.{BadLine}
 use Rattle.text.specs.declared.frames.Line.{Line}
 use Rattle.text.specs.declared.frames.Line.the-variants.{Frame, Bad, Unended}
 use Rattle.text.specs.Digits.{isDigit, isDigits}
 use Rattle.text.specs.Newlines.{newline, hasNewline, firstLine, restOf}
-use Rattle.text.specs.Frames.{eventDigits, eventIn, nextLine, lineNumber, lineBytes}
+use Rattle.text.specs.Faults.{fault, faultOf}
+use Rattle.text.specs.Frames.{eventDigits, eventIn, badLine, nextLine, lineNumber, lineColumn, lineBytes}
 use Rattle.text.specs.Promises.{LinesTold}
 use Rattle.text.proofs.DigitLaws.{digit-kinds}
+use Rattle.text.proofs.FaultLaws.{no-fault}
 use Rattle.text.proofs.NewlineLaws.{splits, unended, line-within}
 
 -- no digit ends a line
@@ -86,7 +88,7 @@ frame-next text e =
     let both = both-of (hasNewline text) (isDigits eventDigits (firstLine text)) e in
     ap (λ (l : List ℕ). Line.Frame (eventIn l)) (sym (led text e .line)) ∙ rw (both .0, both .1) refl
 
-pub bad-next : (text : List ℕ) → leads text ≡ false → length (firstLine text) < length text → Line.Bad (length (firstLine text)) ≡ nextLine text
+pub bad-next : (text : List ℕ) → leads text ≡ false → length (firstLine text) < length text → Line.Bad (badLine (firstLine text)) ≡ nextLine text
 bad-next text e shorter =
     ⊎-elim
     (λ (has : hasNewline text ≡ true).
@@ -105,18 +107,24 @@ unended-next text whole =
 -- the event of a frame, or else another
 abbrev eventFrom : Event → Line → Event
 eventFrom other (Frame e) = e
-eventFrom other (Bad n) = other
+eventFrom other (Bad bad) = other
 eventFrom other Unended = other
 
--- the size of a bad line, and by it which way a text begins
-abbrev sizeFrom : Line → ℕ
-sizeFrom (Frame e) = 0
-sizeFrom (Bad n) = suc (suc n)
-sizeFrom Unended = 1
+-- what is told of a bad line, or else another
+abbrev badFrom : BadLine → Line → BadLine
+badFrom other (Frame e) = other
+badFrom other (Bad bad) = bad
+badFrom other Unended = other
+
+-- which of the three ways a text begins
+abbrev wayOf : Line → ℕ
+wayOf (Frame e) = 0
+wayOf (Bad bad) = 1
+wayOf Unended = 2
 
 -- the next line by the two tests
 next-by : (text : List ℕ) (has right : Bool) → hasNewline text ≡ has → isDigits eventDigits (firstLine text) ≡ right
-    → nextLine text ≡ cond has (cond right (Line.Frame (eventIn (firstLine text))) (Line.Bad (length (firstLine text)))) Line.Unended
+    → nextLine text ≡ cond has (cond right (Line.Frame (eventIn (firstLine text))) (Line.Bad (badLine (firstLine text)))) Line.Unended
 next-by text has right h r = rw (h, r) refl
 
 pub record Framed (text : List ℕ) (event : Event) : Type 0 where
@@ -129,45 +137,43 @@ framed text event e = go (hasNewline text) refl (isDigits eventDigits (firstLine
   where
     go : (has : Bool) → hasNewline text ≡ has → (right : Bool) → isDigits eventDigits (firstLine text) ≡ right → Framed text event
     go true h true r = record { has = h; right = r; same = ap (eventFrom event) (e ∙ next-by text true true h r) }
-    go true h false r = absurd (omega (arith, ap sizeFrom (e ∙ next-by text true false h r)))
-    go false h right r = absurd (omega (arith, ap sizeFrom (e ∙ next-by text false right h r)))
+    go true h false r = absurd (omega (arith, ap wayOf (e ∙ next-by text true false h r)))
+    go false h right r = absurd (omega (arith, ap wayOf (e ∙ next-by text false right h r)))
 
-pub record Spoilt (text : List ℕ) (size : ℕ) : Type 0 where
+pub record Spoilt (text : List ℕ) (bad : BadLine) : Type 0 where
   pub has : hasNewline text ≡ true
   pub wrong : isDigits eventDigits (firstLine text) ≡ false
-  pub same : size ≡ length (firstLine text)
+  pub same : bad ≡ badLine (firstLine text)
 
-pub spoilt : (text : List ℕ) (size : ℕ) → Line.Bad size ≡ nextLine text → Spoilt text size
-spoilt text size e = go (hasNewline text) refl (isDigits eventDigits (firstLine text)) refl
+pub spoilt : (text : List ℕ) (bad : BadLine) → Line.Bad bad ≡ nextLine text → Spoilt text bad
+spoilt text bad e = go (hasNewline text) refl (isDigits eventDigits (firstLine text)) refl
   where
-    go : (has : Bool) → hasNewline text ≡ has → (right : Bool) → isDigits eventDigits (firstLine text) ≡ right → Spoilt text size
-    go true h true r = absurd (omega (arith, ap sizeFrom (e ∙ next-by text true true h r)))
-    go true h false r = record { has = h; wrong = r; same = omega (arith, ap sizeFrom (e ∙ next-by text true false h r)) }
-    go false h right r = absurd (omega (arith, ap sizeFrom (e ∙ next-by text false right h r)))
+    go : (has : Bool) → hasNewline text ≡ has → (right : Bool) → isDigits eventDigits (firstLine text) ≡ right → Spoilt text bad
+    go true h true r = absurd (omega (arith, ap wayOf (e ∙ next-by text true true h r)))
+    go true h false r = record { has = h; wrong = r; same = ap (badFrom bad) (e ∙ next-by text true false h r) }
+    go false h right r = absurd (omega (arith, ap wayOf (e ∙ next-by text false right h r)))
 
 pub not-ended : (text : List ℕ) → Line.Unended ≡ nextLine text → hasNewline text ≡ false
 not-ended text e = go (hasNewline text) refl (isDigits eventDigits (firstLine text)) refl
   where
     go : (has : Bool) → hasNewline text ≡ has → (right : Bool) → isDigits eventDigits (firstLine text) ≡ right → hasNewline text ≡ false
-    go true h true r = absurd (omega (arith, ap sizeFrom (e ∙ next-by text true true h r)))
-    go true h false r = absurd (omega (arith, ap sizeFrom (e ∙ next-by text true false h r)))
+    go true h true r = absurd (omega (arith, ap wayOf (e ∙ next-by text true true h r)))
+    go true h false r = absurd (omega (arith, ap wayOf (e ∙ next-by text true false h r)))
     go false h right r = h
 
 pub lines-told : LinesTold
 lines-told text = (λ has. rw has (told (isDigits eventDigits (firstLine text)) refl), λ none. rw none refl)
   where
     line : Bool → Line
-    line b = cond b (Frame (eventIn (firstLine text))) (Bad (length (firstLine text)))
-
-    no-refusal : _≡_ {A = ℕ} 0x00 0x0C → ⊥
-    no-refusal e = omega (arith, e)
+    line b = cond b (Frame (eventIn (firstLine text))) (Bad (badLine (firstLine text)))
 
     told : (b : Bool) → isDigits eventDigits (firstLine text) ≡ b
-        → ((lineNumber (line (isDigits eventDigits (firstLine text))) ≡ badLine) ↔ (isDigits eventDigits (firstLine text) ≡ false))
+        → (fault (lineNumber (line (isDigits eventDigits (firstLine text)))) (lineColumn (line (isDigits eventDigits (firstLine text))))
+        ≡ faultOf eventDigits (firstLine text))
         × (lineBytes (line (isDigits eventDigits (firstLine text))) ≡ length (firstLine text) + 1)
     told true e =
         rw e (
-          (λ n. absurd (no-refusal n), λ f. absurd (true≢false f)),
+          sym (no-fault eventDigits (firstLine text) e),
           ap (λ (n : ℕ). n + 1) (sym (eqb-true _ _ (both-of (eqb (length (firstLine text)) eventDigits) (everyListed isDigit (firstLine text)) e .0))),
         )
-    told false e = rw e ((λ n. refl, λ f. refl), refl)
+    told false e = rw e (refl, refl)

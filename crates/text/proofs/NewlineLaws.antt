@@ -3,11 +3,11 @@ use mathlib.Core.Path.{_≡_, refl, sym, ap, subst, _∙_}
 use mathlib.Core.Logic.{⊎-elim}
 use mathlib.Core.Bool.{true, false, false≢true}
 use mathlib.Core.List.{List, [], _∷_, _++_}
-use Prim.Native.Nat.{ℕ, zero, suc, _<_}
+use Prim.Native.Nat.{ℕ, zero, suc, _<_, _≤_}
 use native.Mathlib.Omega.{arith}
 use lib.Dec.{eqb}
-use lib.ListN.{length, getD, drop, length-append}
-use lib.Seq.{drop-cons, drop-length}
+use lib.ListN.{length, getD, take, drop, length-append}
+use lib.Seq.{drop-cons, drop-length, take-at}
 use borrow.Author.Tests.{eqb-true, eqb-false, eq-eqb, ne-eqb}
 use Rattle.words.proofs.TestLaws.{true-or-false, else-of, neither-of}
 use Rattle.text.specs.Newlines.{newline, hasNewline, firstLine, restOf}
@@ -46,6 +46,20 @@ line-within text e =
     (omega (arith, length-append (firstLine text) (newline ∷ restOf text)))
 
 -- ---- Where the first line ends, looked for byte by byte
+
+-- the code asks for a newline by where the line ends
+pub ends-within : (text : List ℕ) (end : ℕ) → end ≡ length (firstLine text) → end < length text → hasNewline text ≡ true
+ends-within text end e within =
+    ⊎-elim (λ has. has) (λ none. absurd (omega (arith, e, within, ap length (unended text none)))) (true-or-false (hasNewline text))
+
+pub ends-beyond : (text : List ℕ) (end : ℕ) → end ≡ length (firstLine text) → length text ≤ end → hasNewline text ≡ false
+ends-beyond text end e beyond =
+    ⊎-elim (λ has. absurd (omega (arith, e, beyond, line-within text has))) (λ none. none) (true-or-false (hasNewline text))
+
+-- up to there stands the first line
+pub line-front : (text : List ℕ) (end : ℕ) → end ≡ length (firstLine text) → end < length text → take end text ≡ firstLine text
+line-front text end e within =
+    ap (take end) (splits text (ends-within text end e within)) ∙ take-at (firstLine text) (newline ∷ restOf text) end (sym e)
 
 pub line-at : (text : List ℕ) (i : ℕ) → i < length text → getD text i 0 ≡ newline → firstLine (drop i text) ≡ []
 unfolding firstLine

@@ -4,12 +4,13 @@ use mathlib.Core.Path.{_≡_}
 use mathlib.Core.Bool.{true, false}
 use mathlib.Core.List.{List, [], _∷_, _++_}
 use lib.ListN.{take, drop, replicate}
-use Rattle.bus.specs.Refusal.{accepted, badLine}
 use Rattle.bus.specs.State.{chassis}
 use Rattle.judgement.specs.Table.{eventOf}
 use Rattle.events.specs.declared.answers.Answer.{Answer}
+use Rattle.text.specs.declared.frames.BadLine.{BadLine}
 use Rattle.text.specs.declared.frames.Line.{Line}
 use Rattle.text.specs.Digits.{isDigit, valueOf, digitOf, isDigits}
+use Rattle.text.specs.Faults.{fault, faultOf}
 use Rattle.text.specs.Newlines.{newline, textLines}
 use Rattle.text.specs.Frames.{eventIn, setupIn, longest, nextLine}
 use Rattle.text.specs.AnswerLine.{answerLine, answerLength, printed, bytesPut}
@@ -43,6 +44,9 @@ fifteen = 0x30 ∷ 0x41 ∷ 0x30 ∷ 0x33 ∷ 0x30 ∷ 0x30 ∷ 0x31 ∷ 0x30 �
 abbrev pub lowerA : List ℕ
 lowerA = 0x30 ∷ 0x61 ∷ 0x30 ∷ 0x33 ∷ 0x30 ∷ 0x30 ∷ 0x31 ∷ 0x30 ∷ 0x30 ∷ 0x30 ∷ 0x31 ∷ 0x32 ∷ 0x33 ∷ 0x34 ∷ []
 
+abbrev pub bad : ℕ → ℕ → ℕ → BadLine
+bad size refusal column = record { size = size; fault = fault refusal column }
+
 pub record EventLines : Type 0 where
   pub right : isDigits 14 wordWrite ≡ true
   pub event : eventIn wordWrite ≡ eventOf 0x0A 0x03 0x001000 0x1234
@@ -52,17 +56,47 @@ pub record EventLines : Type 0 where
   -- what a text begins with
   pub frame : nextLine (wordWrite ++ newline ∷ 0x30 ∷ []) ≡ Line.Frame (eventOf 0x0A 0x03 0x001000 0x1234)
   pub unended : nextLine wordWrite ≡ Line.Unended
-  pub bad : nextLine (thirteen ++ newline ∷ []) ≡ Line.Bad 13
-  pub tooLong : nextLine (fifteen ++ newline ∷ []) ≡ Line.Bad 15
-  pub empty : nextLine (newline ∷ wordWrite) ≡ Line.Bad 0
+  pub tooShort : nextLine (thirteen ++ newline ∷ []) ≡ Line.Bad (bad 13 0x0C 0)
+  pub tooLong : nextLine (fifteen ++ newline ∷ []) ≡ Line.Bad (bad 15 0x0C 0)
+  pub misspelt : nextLine (lowerA ++ newline ∷ []) ≡ Line.Bad (bad 14 0x0D 2)
+  pub empty : nextLine (newline ∷ wordWrite) ≡ Line.Bad (bad 0 0x0C 0)
+  -- the newline at its place ends another line
+  pub cut : nextLine (take 3 wordWrite ++ newline ∷ drop 4 wordWrite ++ newline ∷ []) ≡ Line.Bad (bad 3 0x0C 0)
 
 abbrev pub setup : List ℕ
 setup = 0x30 ∷ 0x30 ∷ 0x30 ∷ 0x41 ∷ 0x31 ∷ 0x32 ∷ 0x30 ∷ 0x30 ∷ 0x30 ∷ 0x30 ∷ 0x30 ∷ 0x30 ∷ 0x30 ∷ 0x30 ∷ 0x30 ∷ 0x30 ∷ 0x30 ∷ 0x30 ∷ 0x30 ∷ 0x30 ∷ []
 
 pub record SetupLines : Type 0 where
-  pub right : setupIn setup ≡ record { refusal = accepted; chassis = chassis 0x000A (1 ∷ 2 ∷ replicate 14 0) }
-  pub anEvent : setupIn wordWrite ≡ record { refusal = badLine; chassis = chassis 0 (replicate 16 0) }
-  pub tooLong : setupIn (setup ++ 0x30 ∷ []) ≡ record { refusal = badLine; chassis = chassis 0 (replicate 16 0) }
+  pub right : setupIn setup ≡ record { fault = fault 0x00 0; chassis = chassis 0x000A (1 ∷ 2 ∷ replicate 14 0) }
+  pub anEvent : setupIn wordWrite ≡ record { fault = fault 0x0C 0; chassis = chassis 0 (replicate 16 0) }
+  pub tooLong : setupIn (setup ++ 0x30 ∷ []) ≡ record { fault = fault 0x0C 0; chassis = chassis 0 (replicate 16 0) }
+  -- a page code 3, and behind it a space in the last column
+  pub misspelt : setupIn (take 4 setup ++ 0x33 ∷ drop 5 (take 19 setup) ++ 0x20 ∷ []) ≡ record { fault = fault 0x0D 20; chassis = chassis 0 (replicate 16 0) }
+
+-- ---- What is wrong with a line
+
+-- the word write with another byte in a column, counted from 1
+abbrev pub withIn : ℕ → ℕ → List ℕ
+withIn column b = take (column - 1) wordWrite ++ b ∷ drop column wordWrite
+
+pub record WrongLines : Type 0 where
+  pub nothing : faultOf 14 wordWrite ≡ fault 0x00 0
+  -- a wrong length, whatever the bytes: the carriage return of a line that ends in one is its fifteenth byte
+  pub tooShort : faultOf 14 thirteen ≡ fault 0x0C 0
+  pub carriageReturn : faultOf 14 (wordWrite ++ 0x0D ∷ []) ≡ fault 0x0C 0
+  pub shortAndMisspelt : faultOf 14 (drop 1 lowerA) ≡ fault 0x0C 0
+  pub empty : faultOf 14 [] ≡ fault 0x0C 0
+  -- the first column, one in the middle, the last; a NUL, a space, a letter O, a small letter, bytes above 7F
+  pub first : faultOf 14 (withIn 1 0x00) ≡ fault 0x0D 1
+  pub middle : faultOf 14 (withIn 7 0x20) ≡ fault 0x0D 7
+  pub last : faultOf 14 (withIn 14 0x4F) ≡ fault 0x0D 14
+  pub small : faultOf 14 (withIn 2 0x61) ≡ fault 0x0D 2
+  pub high : (faultOf 14 (withIn 9 0x80) ≡ fault 0x0D 9) × (faultOf 14 (withIn 10 0xFF) ≡ fault 0x0D 10)
+  -- thirteen digits and a carriage return
+  pub shortWithReturn : faultOf 14 (thirteen ++ 0x0D ∷ []) ≡ fault 0x0D 14
+  -- of several the first counts
+  pub two : faultOf 14 (0x30 ∷ 0x61 ∷ 0x20 ∷ drop 3 wordWrite) ≡ fault 0x0D 2
+  pub all : faultOf 14 (replicate 14 0x78) ≡ fault 0x0D 1
 
 -- ---- An answer line with every digit
 

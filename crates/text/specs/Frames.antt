@@ -4,15 +4,17 @@ use mathlib.Core.Bool.{cond}
 use mathlib.Core.List.{List, [], _∷_, map}
 use lib.ListN.{length, take, drop}
 use Rattle.words.specs.Parts.{total, nthPart}
-use Rattle.bus.specs.Refusal.{accepted, badLine}
+use Rattle.bus.specs.Refusal.{accepted}
 use Rattle.bus.specs.State.{chassis, emptyChassis}
 use Rattle.bus.specs.declared.state.Chassis.{Chassis}
 use Rattle.judgement.specs.Table.{eventOf}
 use Rattle.judgement.specs.declared.event.Event.{Event}
+use Rattle.text.specs.declared.frames.BadLine.{BadLine}
 use Rattle.text.specs.declared.frames.Line.{Line}
 use Rattle.text.specs.declared.frames.Line.the-variants.{Frame, Bad, Unended}
 use Rattle.text.specs.declared.frames.SetupLine.{SetupLine}
 use Rattle.text.specs.Digits.{valueOf, numberOf, isDigits}
+use Rattle.text.specs.Faults.{fault, faultOf}
 use Rattle.text.specs.Newlines.{hasNewline, firstLine}
 
 -- so many digits of a line from a place on
@@ -34,23 +36,32 @@ eventField n line = numberOf (nthPart n eventWidths line)
 abbrev pub eventIn : List ℕ → Event
 eventIn line = eventOf (eventField 0 line) (eventField 1 line) (eventField 2 line) (eventField 3 line)
 
--- What a text begins with: a line with an event, a bad line of so many bytes, or a line that isn't ended yet.
+abbrev pub badLine : List ℕ → BadLine
+badLine line = record { size = length line; fault = faultOf eventDigits line }
+
+-- What a text begins with: a line with an event, a bad line, or a line that isn't ended yet.
 abbrev pub nextLine : List ℕ → Line
 nextLine text =
     cond (hasNewline text)
-    (cond (isDigits eventDigits (firstLine text)) (Line.Frame (eventIn (firstLine text))) (Line.Bad (length (firstLine text))))
+    (cond (isDigits eventDigits (firstLine text)) (Line.Frame (eventIn (firstLine text))) (Line.Bad (badLine (firstLine text))))
     Line.Unended
 
--- its number as 01 has them: 0C for a bad line, while a frame is judged as its event is, and a line that isn't ended is not judged
+-- its number as 01 and 02 have them: a frame is judged as its event is, and a line that isn't ended is not judged
 abbrev pub lineNumber : Line → ℕ
 lineNumber (Frame event) = accepted
-lineNumber (Bad size) = badLine
+lineNumber (Bad bad) = bad .fault .refusal
 lineNumber Unended = accepted
 
--- and the bytes that it takes off the text, its newline among them
+-- the column of its first wrong character, and else 0
+abbrev pub lineColumn : Line → ℕ
+lineColumn (Frame event) = 0
+lineColumn (Bad bad) = bad .fault .column
+lineColumn Unended = 0
+
+-- the bytes that it takes off the text, its newline among them
 abbrev pub lineBytes : Line → ℕ
 lineBytes (Frame event) = eventDigits + 1
-lineBytes (Bad size) = size + 1
+lineBytes (Bad bad) = bad .size + 1
 lineBytes Unended = 0
 
 -- ---- The setup line: the digits of the fitted set, then one for each page
@@ -77,5 +88,5 @@ chassisIn line = chassis (fittedIn line) (pagesIn line)
 
 abbrev pub setupIn : List ℕ → SetupLine
 setupIn line =
-    cond (isDigits setupDigits line) (record { refusal = accepted; chassis = chassisIn line })
-    (record { refusal = badLine; chassis = emptyChassis })
+    cond (isDigits setupDigits line) (record { fault = fault accepted 0; chassis = chassisIn line })
+    (record { fault = faultOf setupDigits line; chassis = emptyChassis })

@@ -1,29 +1,56 @@
 -- What is promised of digits, lines and frames. The proof of each stands in proofs/ under its name in lower case, with hyphens.
 use Prim.Native.Nat.{ℕ, _+_, _-_, _^_, _<_, _≤_}
 use mathlib.Core.Path.{_≡_}
-use mathlib.Core.Logic.{_↔_}
+use mathlib.Core.Logic.{_⊎_, _↔_}
 use mathlib.Core.Bool.{true, false}
 use mathlib.Core.List.{List, _∷_, _++_, map}
 use lib.ListN.{length, getD, take}
-use Rattle.bus.specs.Refusal.{accepted, badLine}
+use Rattle.bus.specs.Refusal.{accepted}
 use Rattle.bus.specs.declared.state.Chassis.{Chassis}
 use Rattle.judgement.specs.declared.event.Event.{Event}
 use Rattle.events.specs.declared.answers.Answer.{Answer}
 use Rattle.text.specs.Digits.{isDigit, valueOf, digitOf, numberOf, digitsOf, isDigits}
+use Rattle.text.specs.Faults.{fault, faultOf}
 use Rattle.text.specs.Newlines.{newline, hasNewline, firstLine, restOf, lastLine, textLines}
-use Rattle.text.specs.Frames.{digitsFrom, eventDigits, eventIn, nextLine, lineNumber, lineBytes, setupIn, longest}
+use Rattle.text.specs.Frames.{digitsFrom, eventDigits, eventIn, nextLine, lineNumber, lineColumn, lineBytes, setupIn, longest}
 use Rattle.text.specs.AnswerLine.{answerDigits, answerLine, answerLength}
 use Rattle.text.specs.Reading.{Reader, answersTo, takenWithin, takenOff, heldOf}
 use Rattle.text.specs.Chunks.{begunIn, fedAll, wholeText}
 
+-- ---- What is wrong with a line
+
+-- the byte in a column, counted from 1, is no digit, and each byte before it is one
+pub record FirstWrong (line : List ℕ) (column : ℕ) : Type 0 where
+  pub counted : 1 ≤ column
+  pub within : column ≤ length line
+  pub wrong : isDigit (getD line (column - 1) 0) ≡ false
+  pub before : (k : ℕ) → k < column - 1 → isDigit (getD line k 0) ≡ true
+
+-- what is told of a line that is to have so many digits
+pub record FaultTold (count : ℕ) (line : List ℕ) : Type 0 where
+  -- it is right exactly if it has so many bytes, and each is a digit;
+  pub right : (faultOf count line .refusal ≡ 0x00) ↔ ((length line ≡ count) × ((k : ℕ) → k < count → isDigit (getD line k 0) ≡ true))
+  -- 0C exactly if its length is wrong, whatever its bytes are;
+  pub wrongLength : (faultOf count line .refusal ≡ 0x0C) ↔ (length line ≡ count → ⊥)
+  -- 0D exactly if it has so many bytes and a first wrong one, and then that one's column is told;
+  pub wrongCharacter : (column : ℕ) → (faultOf count line ≡ fault 0x0D column) ↔ ((length line ≡ count) × FirstWrong line column)
+  -- nothing else, and no column with another number.
+  pub number : (faultOf count line .refusal ≡ 0x00) ⊎ ((faultOf count line .refusal ≡ 0x0C) ⊎ (faultOf count line .refusal ≡ 0x0D))
+  pub noColumn : (faultOf count line .refusal ≡ 0x0D → ⊥) → faultOf count line .column ≡ 0
+
+abbrev pub FaultsTold : Type 0
+FaultsTold = (count : ℕ) (line : List ℕ) → FaultTold count line
+
 -- ---- What a text begins with
 
--- A line that is ended is bad exactly if it isn't the right number of digits, and it is taken off with its newline; one that isn't ended stays.
+-- A line that is ended has the number and column of a line that is to have fourteen digits, and is taken off with its newline; one that isn't
+-- ended stays.
 abbrev pub LinesTold : Type 0
 LinesTold =
     (text : List ℕ)
     → (hasNewline text ≡ true
-    → ((lineNumber (nextLine text) ≡ badLine) ↔ (isDigits eventDigits (firstLine text) ≡ false)) × (lineBytes (nextLine text) ≡ length (firstLine text) + 1))
+    → (fault (lineNumber (nextLine text)) (lineColumn (nextLine text)) ≡ faultOf 14 (firstLine text))
+    × (lineBytes (nextLine text) ≡ length (firstLine text) + 1))
     × (hasNewline text ≡ false → lineBytes (nextLine text) ≡ 0)
 
 -- ---- What is written reads back
@@ -64,7 +91,7 @@ pub record ChassisWritten (given : Chassis) : Type 0 where
   pub pages : (p : ℕ) → p < length (given .pages) → getD (given .pages) p 0 < 16
 
 abbrev pub SetupReadsBack : Type 0
-SetupReadsBack = (given : Chassis) → ChassisWritten given → setupIn (setupLine given) ≡ record { refusal = accepted; chassis = given }
+SetupReadsBack = (given : Chassis) → ChassisWritten given → setupIn (setupLine given) ≡ record { fault = fault accepted 0; chassis = given }
 
 -- an answer line read again
 abbrev pub answerOnLine : List ℕ → Answer

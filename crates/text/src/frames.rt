@@ -26,18 +26,31 @@ pub const SETUP_DIGITS: usize = PAGES_AT + 16;
 // No right line is longer.
 pub const LONGEST: usize = SETUP_DIGITS;
 
+// What is wrong with a line: its number, and the column of its first wrong character, counted from 1. Where no character is to blame the column
+// is 0, and where nothing is wrong the number too.
+pub struct Fault {
+    pub refusal: u8,
+    pub column: u8,
+}
+
+// A line that is no event's: its bytes, and what is wrong with it.
+pub struct BadLine {
+    pub size: usize,
+    pub fault: Fault,
+}
+
 // What a text begins with.
 pub enum Line {
     // A line with an event.
     Frame(Event),
-    // Another line, of so many bytes.
-    Bad(usize),
+    // Another line.
+    Bad(BadLine),
     // A line that isn't ended yet.
     Unended,
 }
 
-// What setup is given by its line, or the refusal.
+// What setup is given by its line, empty where there is a fault.
 pub struct SetupLine {
-    pub refusal: u8,
+    pub fault: Fault,
     pub chassis: Chassis,
 }

@@ -3,7 +3,9 @@ pub mod answer_line;
 pub mod frames;
 
 pub use answer_line::ANSWER_LENGTH;
+pub use frames::BadLine;
 pub use frames::EVENT_DIGITS;
+pub use frames::Fault;
 pub use frames::LONGEST;
 pub use frames::Line;
 pub use frames::NEWLINE;

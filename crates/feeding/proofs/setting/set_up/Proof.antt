@@ -1,9 +1,8 @@
 -- By the refusal of the line.
-use mathlib.Core.Path.{refl, ap, _∙_}
+use mathlib.Core.Path.{refl, _∙_}
 use borrow.Author.Needs.{needs}
 use borrow.Author.Tests.{eq-eqb, ne-eqb}
 use Rattle.words.proofs.TestLaws.{then-pick, else-pick}
-use Rattle.session.specs.World.{setUpBy}
 use Rattle.feeding.proofs.setting.set_up.Statement.{statement}
 use Rattle.feeding.proofs.setting.set_up.Tie as tie
 
@@ -13,10 +12,9 @@ set-up-spec =
     (tie.spec
     (λ c κs. search needs)
     (λ c κs. search needs)
-    (λ c κs. search needs)
     (λ c.
-    let given = c .before .before .before .before .setup-line in
-    c .setup .ensures ∙ then-pick _ (eq-eqb (given .result .refusal) 0 (c .before .if1 .taken)) refl ∙ ap setUpBy (given .ensures))
+    let fault = c .before .before .before .before .before .args .line .fault in
+    c .setup .ensures ∙ then-pick _ (eq-eqb (fault .refusal) 0 (c .before .if1 .taken)) refl)
     (λ c.
-    let given = c .before .before .before .before .setup-line in
-    c .refused-setup .ensures ∙ else-pick _ (ne-eqb (given .result .refusal) 0 (c .before .if1 .left)) refl ∙ ap setUpBy (given .ensures)))
+    let fault = c .before .before .before .before .before .args .line .fault in
+    c .refused-setup .ensures ∙ else-pick _ (ne-eqb (fault .refusal) 0 (c .before .if1 .left)) refl))

@@ -12,8 +12,11 @@ setup-answer-spec =
     (tie.spec
     (λ c κs. search needs)
     (λ c κs. search needs)
+    (λ c. search needs)
     (λ c κs. search needs)
     (λ c.
     let given = c .before .before .before .before .before .args .given in
     c .answer-with .ensures ∙ then-pick _ (eq-eqb (given .answer) 0 (c .before .before .if1 .taken)) (rw (c .before .signals .ensures) refl))
-    (λ c. c .bare .ensures ∙ else-pick _ (ne-eqb (c .before .before .before .before .args .given .answer) 0 (c .before .if1 .left)) refl))
+    (λ c.
+    let given = c .before .before .before .before .before .args .given in
+    c .bare-with .ensures ∙ else-pick _ (ne-eqb (given .answer) 0 (c .before .before .if1 .left)) refl))

@@ -1,5 +1,5 @@
 -- By what the text begins with.
-use mathlib.Core.Path.{_≡_, sym, _∙_}
+use mathlib.Core.Path.{_≡_, sym, ap, _∙_}
 use mathlib.Core.List.{List}
 use Prim.Native.Nat.{ℕ}
 use native.Mathlib.Omega.{arith}
@@ -54,18 +54,18 @@ told-requires c κs = search needs
 enum-known-line-2 : tie.Need-enum-known-line-2
 enum-known-line-2 c = search needs
 
-bare-requires : tie.Need-bare-requires
-bare-requires c κs = search needs
+fault-answer-requires : tie.Need-fault-answer-requires
+fault-answer-requires c κs = search needs
 
 put-reply-requires : tie.Need-put-reply-requires
 put-reply-requires c κs = search needs
 
 add-told : tie.Need-add-told
 add-told c =
-    let at = at-bad (c .before .before) in
+    let at = at-bad (c .before .before .before) in
     let rest = start (at .before .before) .args .rest .now in
     let bad = spoilt rest _ (spoilt-line at) in
-    record { fits = omega (arith, bad .same, line-within rest (bad .has)) }
+    record { fits = omega (arith, ap (λ b. b .size) (bad .same), line-within rest (bad .has)) }
 
 told-requires-2 : tie.Need-told-requires-2
 told-requires-2 c κs = search needs
@@ -101,12 +101,12 @@ same-length-4 c = search needs
 
 returns-2 : tie.Need-returns-2
 returns-2 c =
-    let put = c .before .before .before in
+    let put = c .before .before .before .before in
     let line = at-bad put in
     let from = start (line .before .before) in
     rw (c .told2 .ensures) (
     bad-taken (from .args .wanted) (from .args .bus) (from .args .memory .now) (from .args .ports .now) (from .args .rest .now) (from .args .out .now)
-    _ _ _ (spoilt-line line) _ (put .before .before .bare .ensures) (put .put-reply .ensures .0) (put .put-reply .ensures .1))
+    _ _ _ (spoilt-line line) _ (put .before .before .fault-answer .ensures) (put .put-reply .ensures .0) (put .put-reply .ensures .1))
 
 returns-3 : tie.Need-returns-3
 returns-3 c =
@@ -126,7 +126,7 @@ take-event-spec =
     put-event-requires
     told-requires
     enum-known-line-2
-    bare-requires
+    fault-answer-requires
     put-reply-requires
     add-told
     told-requires-2

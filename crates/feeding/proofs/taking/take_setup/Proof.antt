@@ -16,7 +16,7 @@ abbrev start : tie.After-line-end → tie.Start
 start c = c .before .before .before
 
 -- the line has ended
-abbrev at-line : tie.After-set-up → tie.Then1
+abbrev at-line : tie.After-setup-line → tie.Then1
 at-line c = c .before .before
 
 abbrev at-set-up : tie.After-put-reply → tie.After-set-up
@@ -27,10 +27,13 @@ at-set-up c = c .before .before .before
 line-end-requires : tie.Need-line-end-requires
 line-end-requires c κs = search needs
 
-slice-aggregate-set-up : tie.Need-slice-aggregate-set-up
-slice-aggregate-set-up c =
+slice-aggregate-setup-line : tie.Need-slice-aggregate-setup-line
+slice-aggregate-setup-line c =
     let line = c .before in
     sym (length-take-le (line .before .line-end .result) (start (line .before) .args .rest .now) (omega (arith, line .if1 .taken)))
+
+setup-line-requires : tie.Need-setup-line-requires
+setup-line-requires c κs = search needs
 
 set-up-requires : tie.Need-set-up-requires
 set-up-requires c κs = search needs
@@ -45,7 +48,10 @@ stage-after-requires : tie.Need-stage-after-requires
 stage-after-requires c κs = search needs
 
 add-told : tie.Need-add-told
-add-told c = search needs
+add-told c =
+    let put = c .before .before .before in
+    let line = at-line (at-set-up put .before) in
+    record { fits = omega (arith, line .if1 .taken) }
 
 told-requires : tie.Need-told-requires
 told-requires c κs = search needs
@@ -60,11 +66,13 @@ returns : tie.Need-returns
 returns c =
     let put = c .before .before .before .before in
     let given = at-set-up put in
-    let line = at-line given in
+    let read = given .before in
+    let line = at-line read in
     let from = start (line .before) in
     rw (c .told .ensures, c .before .stage-after .ensures) (
     setup-taken (from .args .wanted) (from .args .bus) (from .args .rest .now) (from .args .out .now) (line .before .line-end .result)
-    (line .before .line-end .ensures) (line .if1 .taken) (given .set-up .result) _ _ (given .set-up .ensures)
+    (line .before .line-end .ensures) (line .if1 .taken) (read .setup-line .result) (given .set-up .result) _ _ (read .setup-line .ensures)
+    (given .set-up .ensures)
     (put .put-reply .ensures .0 ∙ ap (λ a. length (replyAs (from .args .wanted) a)) (put .before .before .setup-answer .ensures))
     (put .put-reply .ensures .1 ∙ ap (λ a. sets (from .args .out .now) 0 (replyAs (from .args .wanted) a)) (put .before .before .setup-answer .ensures)))
 
@@ -81,7 +89,8 @@ take-setup-spec =
     tie.close
     (tie.spec
     line-end-requires
-    slice-aggregate-set-up
+    slice-aggregate-setup-line
+    setup-line-requires
     set-up-requires
     setup-answer-requires
     put-reply-requires

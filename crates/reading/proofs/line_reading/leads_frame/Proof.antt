@@ -2,8 +2,10 @@
 use mathlib.Core.Path.{sym, _∙_}
 use native.Mathlib.Omega.{arith}
 use borrow.Author.Needs.{needs}
+use lib.ListN.{take}
 use lib.Seq.{length-take-le}
 use Rattle.text.specs.Frames.{eventDigits}
+use Rattle.text.proofs.FaultLaws.{all-counted}
 use Rattle.text.proofs.FrameLaws.{lead-found, no-lead}
 use Rattle.reading.proofs.line_reading.leads_frame.Statement.{statement}
 use Rattle.reading.proofs.line_reading.leads_frame.Tie as tie
@@ -11,17 +13,18 @@ use Rattle.reading.proofs.line_reading.leads_frame.Tie as tie
 shared-slice-read-if2 : tie.Need-shared-slice-read-if2
 shared-slice-read-if2 c = search needs
 
-slice-aggregate-all-digits : tie.Need-slice-aggregate-all-digits
-slice-aggregate-all-digits c = sym (length-take-le eventDigits (c .before .before .before .before .before .args .text .now) (omega arith))
+slice-aggregate-leading-digits : tie.Need-slice-aggregate-leading-digits
+slice-aggregate-leading-digits c = sym (length-take-le eventDigits (c .before .before .before .before .before .args .text .now) (omega arith))
 
-all-digits-requires : tie.Need-all-digits-requires
-all-digits-requires c κs = search needs
+leading-digits-requires : tie.Need-leading-digits-requires
+leading-digits-requires c κs = search needs
 
 returns : tie.Need-returns
 returns c =
     let then = c .before .before in
     let text = then .before .before .before .before .args .text .now in
-    c .all-digits .ensures ∙ lead-found text (omega arith) (then .if2 .taken)
+    let size = length-take-le eventDigits text (omega arith) in
+    rw (c .leading-digits .ensures) (all-counted eventDigits (take eventDigits text) size ∙ lead-found text (omega arith) (then .if2 .taken))
 
 returns-2 : tie.Need-returns-2
 returns-2 c = no-lead (c .before .before .before .before .args .text .now) (λ led. c .if2 .left (led .ends))
@@ -34,8 +37,8 @@ leads-frame-spec =
     tie.close
     (tie.spec
     shared-slice-read-if2
-    slice-aggregate-all-digits
-    all-digits-requires
+    slice-aggregate-leading-digits
+    leading-digits-requires
     returns
     returns-2
     returns-3)

@@ -5,6 +5,7 @@ use borrow.Author.Needs.{needs}
 use lib.Seq.{length-take-le}
 use Rattle.text.specs.declared.frames.Line.{Line}
 use Rattle.text.specs.Frames.{eventDigits}
+use Rattle.text.proofs.NewlineLaws.{line-front}
 use Rattle.text.proofs.FrameLaws.{Led, led, frame-next, bad-next, unended-next}
 use Rattle.reading.proofs.line_reading.next_line.Statement.{statement}
 use Rattle.reading.proofs.line_reading.next_line.Tie as tie
@@ -38,13 +39,25 @@ returns c =
     let text = at-start (then .before) .args .text .now in
     ap Line.Frame (c .event-in .ensures) ∙ frame-next text (sym (then .before .leads-frame .ensures) ∙ then .if1 .taken)
 
+slice-aggregate-fault-of : tie.Need-slice-aggregate-fault-of
+slice-aggregate-fault-of c =
+    let at-line-end = c .before .before in
+    let text = at-start (at-line-end .before .before) .args .text .now in
+    sym (length-take-le (at-line-end .line-end .result) text (omega (arith, c .before .if2 .taken)))
+
+fault-of-requires : tie.Need-fault-of-requires
+fault-of-requires c κs = search needs
+
 returns-2 : tie.Need-returns-2
 returns-2 c =
-    let at-line-end = c .before in
+    let then = c .before .before in
+    let at-line-end = then .before in
     let else = at-line-end .before in
     let text = at-start (else .before) .args .text .now in
-    ap Line.Bad (at-line-end .line-end .ensures)
-    ∙ bad-next text (sym (else .before .leads-frame .ensures) ∙ else .if1 .left) (omega (arith, at-line-end .line-end .ensures, c .if2 .taken))
+    let end = at-line-end .line-end .ensures in
+    let line = line-front text (at-line-end .line-end .result) end (then .if2 .taken) in
+    rw (c .fault-of .ensures, line, end) (
+    bad-next text (sym (else .before .leads-frame .ensures) ∙ else .if1 .left) (omega (arith, end, then .if2 .taken)))
 
 returns-3 : tie.Need-returns-3
 returns-3 c =
@@ -58,6 +71,8 @@ next-line-spec =
     slice-aggregate-event-in
     event-in-requires
     line-end-requires
+    slice-aggregate-fault-of
+    fault-of-requires
     returns
     returns-2
     returns-3)

@@ -1,41 +1,41 @@
--- The right number of digits, or a bad line.
-use mathlib.Core.Path.{_≡_, refl, sym, _∙_}
+-- By what is wrong with the line.
+use mathlib.Core.Path.{_≡_, refl, sym, ap, _∙_}
 use mathlib.Core.Bool.{true}
-use native.Mathlib.Omega.{arith}
 use borrow.Author.Needs.{needs}
-use lib.ListN.{length}
-use borrow.Author.Tests.{eq-eqb, ne-eqb}
-use Rattle.words.specs.Among.{everyListed}
-use Rattle.text.specs.Digits.{isDigit}
+use Rattle.bus.specs.Refusal.{accepted}
+use Rattle.text.specs.declared.frames.Fault.{Fault}
+use Rattle.text.specs.Digits.{isDigits}
 use Rattle.text.specs.Frames.{setupDigits}
+use Rattle.text.proofs.FaultLaws.{all-digits-of, no-fault, faultless, faulty}
 use Rattle.reading.proofs.line_reading.setup_line.Statement.{statement}
 use Rattle.reading.proofs.line_reading.setup_line.Tie as tie
 
-all-digits-requires : tie.Need-all-digits-requires
-all-digits-requires c κs = search needs
+abbrev at-fault : tie.After-struct-known → tie.After-fault-of
+at-fault c = c .before
 
-abbrev at-start : tie.After-all-digits → tie.Start
-at-start c = c .before .before .before
+abbrev at-start : tie.After-struct-known → tie.Start
+at-start c = at-fault c .before .before
 
--- all bytes are digits
-digits : (c : tie.Then2) → everyListed isDigit (at-start (c .before) .args .line .now) ≡ true
-digits c = sym (c .before .all-digits .ensures) ∙ c .if2 .taken
+-- the line is right
+right : (c : tie.Then1) → isDigits setupDigits (at-start (c .before) .args .line .now) ≡ true
+right c =
+    faultless setupDigits (at-start (c .before) .args .line .now)
+    (ap (λ (f : Fault). f .refusal) (sym (at-fault (c .before) .fault-of .ensures)) ∙ c .if1 .taken)
 
 chassis-in-requires : tie.Need-chassis-in-requires
-chassis-in-requires c κs = (omega arith, digits c)
+chassis-in-requires c κs = all-digits-of setupDigits (at-start (c .before) .args .line .now) (right c)
 
 returns : tie.Need-returns
 returns c =
-    let long = eq-eqb (length (at-start (c .before .before) .args .line .now)) setupDigits (omega arith) in
-    rw (long, digits (c .before), c .chassis-in .ensures) refl
+    let then = c .before in
+    let line = at-start (then .before) .args .line .now in
+    rw (right then, c .chassis-in .ensures, at-fault (then .before) .fault-of .ensures ∙ no-fault setupDigits line (right then)) refl
 
 returns-2 : tie.Need-returns-2
 returns-2 c =
-    let long = eq-eqb (length (at-start (c .before) .args .line .now)) setupDigits (omega arith) in
-    rw (long, sym (c .before .all-digits .ensures) ∙ c .if2 .left) refl
-
-returns-3 : tie.Need-returns-3
-returns-3 c = rw (ne-eqb (length (c .before .before .args .line .now)) setupDigits (λ e. c .if1 .left e)) refl
+    let found = at-fault (c .before) .fault-of .ensures in
+    let wrong = faulty setupDigits (at-start (c .before) .args .line .now) (λ e. c .if1 .left (ap (λ (f : Fault). f .refusal) found ∙ e)) in
+    rw (wrong, found) refl
 
 pub setup-line-spec : {M : Type 1} → statement M
-setup-line-spec = tie.close (tie.spec all-digits-requires chassis-in-requires returns returns-2 returns-3)
+setup-line-spec = tie.close (tie.spec (λ c κs. search needs) chassis-in-requires returns returns-2)
