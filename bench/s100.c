@@ -38,7 +38,7 @@ struct answer {
     uint16_t datum;
 };
 
-static struct bus bus;
+static struct bus bus = {.granted = NOBODY};
 static uint8_t memory[0x10000];
 static uint8_t ports[0x100];
 
@@ -261,7 +261,7 @@ static int digit_of(char c)
     return -1;
 }
 
-/* Reads n digits from *text on into *value, and moves *text past them; 0 where one is no digit. */
+/* Reads n digits from *text on into *value, and moves *text past them; 0 where one is no digit, and *text is then just past that one. */
 static int take_number(const char **text, int n, uint32_t *value)
 {
     *value = 0;
@@ -424,54 +424,86 @@ static void report(const struct event *e, const struct answer *a)
         put_pictures(e, a);
 }
 
-static void report_refusal(uint8_t number)
+static struct answer refused(uint8_t number)
 {
     struct answer a = {0};
     a.refusal = number;
-    report(NULL, &a);
+    return a;
+}
+
+/* A line of the right length has been read to just past its first character that is no digit. */
+static struct answer wrong_character(const char *line, const char *past)
+{
+    struct answer a = refused(0x0D);
+    a.datum = (uint16_t)(past - line);
+    return a;
+}
+
+/* Reads the 20 digits of a setup line; 0 as for a number. */
+static int take_setup(const char **text)
+{
+    uint32_t fitted, page;
+    if (!take_number(text, 4, &fitted))
+        return 0;
+    bus.fitted = (uint16_t)fitted;
+    for (int i = 0; i < 16; i++) {
+        if (!take_number(text, 1, &page))
+            return 0;
+        bus.pages[i] = (uint8_t)page;
+    }
+    return 1;
+}
+
+static int has_unknown_page(void)
+{
+    for (int i = 0; i < 16; i++)
+        if (bus.pages[i] > 2)
+            return 1;
+    return 0;
 }
 
 /* The setup line; whether the run goes on. */
 static int set_up(const char *line, size_t length)
 {
-    uint32_t fitted, page;
-    uint8_t refusal = 0;
-    if (length != 20 || !take_number(&line, 4, &fitted)) {
-        report_refusal(0x0C);
-        return 0;
-    }
-    for (int i = 0; i < 16; i++) {
-        if (!take_number(&line, 1, &page)) {
-            report_refusal(0x0C);
-            return 0;
-        }
-        if (page > 2)
-            refusal = 0x0B;
-        bus.pages[i] = (uint8_t)page;
-    }
-    if (refusal) {
-        report_refusal(refusal);
-        return 0;
-    }
-    bus.fitted = (uint16_t)fitted;
-    bus.granted = NOBODY;
+    const char *text = line;
     struct answer a = {0};
-    show_bus(&a);
+    if (length != 20)
+        a = refused(0x0C);
+    else if (!take_setup(&text))
+        a = wrong_character(line, text);
+    else if (has_unknown_page())
+        a = refused(0x0B);
+    else
+        show_bus(&a);
     report(NULL, &a);
+    return a.refusal == 0;
+}
+
+/* Reads the 14 digits of an event line; 0 as for a number. */
+static int take_event(const char **text, struct event *e)
+{
+    uint32_t kind, speaker, address, datum;
+    if (!take_number(text, 2, &kind) || !take_number(text, 2, &speaker) || !take_number(text, 6, &address) || !take_number(text, 4, &datum))
+        return 0;
+    *e = (struct event){(uint8_t)kind, (uint8_t)speaker, address, (uint16_t)datum};
     return 1;
 }
 
 static void answer_event(const char *line, size_t length)
 {
-    uint32_t kind, speaker, address, datum;
-    if (length != 14 || !take_number(&line, 2, &kind) || !take_number(&line, 2, &speaker) || !take_number(&line, 6, &address) ||
-        !take_number(&line, 4, &datum)) {
-        report_refusal(0x0C);
-        return;
+    const char *text = line;
+    struct event e;
+    struct answer a;
+    if (length != 14) {
+        a = refused(0x0C);
+        report(NULL, &a);
+    } else if (!take_event(&text, &e)) {
+        a = wrong_character(line, text);
+        report(NULL, &a);
+    } else {
+        a = step(&e);
+        report(&e, &a);
     }
-    struct event e = {(uint8_t)kind, (uint8_t)speaker, address, (uint16_t)datum};
-    struct answer a = step(&e);
-    report(&e, &a);
 }
 
 int main(void)

@@ -3,6 +3,7 @@
 // Compiled with --cfg pins it is to be timed against s100_pins: for each accepted event its pictures of the pins (02, CR 1), and nothing else.
 // That is settled when compiling, so that the answers pay nothing for it.
 use std::io::{self, BufRead, BufWriter, Write};
+use std::ops::Range;
 
 const PRINTS_PICTURES: bool = cfg!(pins);
 
@@ -260,40 +261,45 @@ fn digit(c: u8) -> Option<u32> {
     }
 }
 
-fn number(digits: &[u8]) -> Option<u32> {
-    digits.iter().try_fold(0, |n, &c| Some(n << 4 | digit(c)?))
+fn refused(number: u8) -> Answer {
+    Answer { refusal: number, ..Answer::default() }
 }
 
-fn event(line: &[u8]) -> Option<Event> {
-    if line.len() != 14 {
-        return None;
-    }
-    Some(Event {
-        kind: number(&line[0..2])? as u8,
-        speaker: number(&line[2..4])? as u8,
-        address: number(&line[4..10])? as usize,
-        datum: number(&line[10..14])? as u16,
+/// The number at these places of a line, or the answer to the first of them that holds no digit. Columns are counted from 1, places from 0.
+fn number(line: &[u8], mut places: Range<usize>) -> Result<u32, Answer> {
+    places.try_fold(0, |n, place| match digit(line[place]) {
+        Some(digit) => Ok(n << 4 | digit),
+        None => Err(Answer { datum: place as u16 + 1, ..refused(0x0D) }),
     })
 }
 
-/// The machine of a setup line, or the refusal.
-fn set_up(line: &[u8]) -> Result<Machine, u8> {
-    if line.len() != 20 {
-        return Err(0x0C);
+/// The event of a line, or the answer to a bad line.
+fn event(line: &[u8]) -> Result<Event, Answer> {
+    if line.len() != 14 {
+        return Err(refused(0x0C));
     }
-    let fitted = number(&line[0..4]).ok_or(0x0C)?;
-    let mut pages = [0; 16];
-    for (page, &c) in pages.iter_mut().zip(&line[4..]) {
-        *page = digit(c).ok_or(0x0C)? as u8;
-    }
-    if pages.iter().any(|&page| page > 2) {
-        return Err(0x0B);
-    }
-    Ok(Machine::new(fitted as u16, pages))
+    Ok(Event {
+        kind: number(line, 0..2)? as u8,
+        speaker: number(line, 2..4)? as u8,
+        address: number(line, 4..10)? as usize,
+        datum: number(line, 10..14)? as u16,
+    })
 }
 
-fn bare(refusal: u8) -> Answer {
-    Answer { refusal, ..Answer::default() }
+/// The machine of a setup line, or the answer to one that is refused.
+fn set_up(line: &[u8]) -> Result<Machine, Answer> {
+    if line.len() != 20 {
+        return Err(refused(0x0C));
+    }
+    let fitted = number(line, 0..4)?;
+    let mut pages = [0; 16];
+    for (page, place) in pages.iter_mut().zip(4..) {
+        *page = number(line, place..place + 1)? as u8;
+    }
+    if pages.iter().any(|&page| page > 2) {
+        return Err(refused(0x0B));
+    }
+    Ok(Machine::new(fitted as u16, pages))
 }
 
 const DIGITS: &[u8; 16] = b"0123456789ABCDEF";
@@ -445,8 +451,8 @@ fn answer(machine: &mut Option<Machine>, line: &[u8], out: &mut impl Write) -> i
     match machine {
         Some(m) => {
             match event(line) {
-                Some(e) => report(out, Some(&e), &m.step(&e))?,
-                None => report(out, None, &bare(0x0C))?,
+                Ok(e) => report(out, Some(&e), &m.step(&e))?,
+                Err(refused) => report(out, None, &refused)?,
             }
             Ok(true)
         }
@@ -456,8 +462,8 @@ fn answer(machine: &mut Option<Machine>, line: &[u8], out: &mut impl Write) -> i
                 *machine = Some(m);
                 Ok(true)
             }
-            Err(number) => {
-                report(out, None, &bare(number))?;
+            Err(refused) => {
+                report(out, None, &refused)?;
                 Ok(false)
             }
         },

@@ -20,7 +20,7 @@ use Rattle.text.specs.Promises.{FirstWrong}
 use Rattle.pins.specs.BusLine.{isDriven}
 use Rattle.pins.specs.Pin.{pinAt, isHigh}
 use Rattle.pins.specs.Picture.{pictureOf, pictureLine, picturesOf}
-use Rattle.pins.specs.ReadAgain.{highOn, drivenOn, seen, unseen, pictureIn}
+use Rattle.pins.specs.ReadAgain.{highOn, drivenOn, pictureIn}
 use Rattle.pins.specs.declared.moments.Moment.{Moment}
 
 -- ---- Every line
@@ -238,7 +238,13 @@ RefusedUnpictured = (m : Machine) (event : Event) → (refusalIn m event ≡ Ref
 abbrev pub ReadsBack : Type 0
 ReadsBack =
     (m : Machine) (event : Event) → refusalIn m event ≡ Refusal.accepted
-    → pictureIn (take 50 (pictures m event)) ≡ seen (answerTo m event .phase) (answerTo m event .signals) (answerTo m event .lines)
+    → pictureIn (take 50 (pictures m event)) ≡ record {
+      refusal = 0x00;
+      phase = answerTo m event .phase;
+      signals = answerTo m event .signals;
+      lines = answerTo m event .lines;
+      column = 0;
+    }
 
 -- so machines whose pictures agree agree in these.
 abbrev pub AlikePictured : Type 0
@@ -253,5 +259,6 @@ AlikePictured =
 abbrev pub BadPictureRefused : Type 0
 BadPictureRefused =
     (line : List ℕ)
-    → ((length line ≡ 50 → ⊥) → pictureIn line ≡ unseen 0x0C 0)
-    × ((column : ℕ) → length line ≡ 50 → FirstWrong line column → pictureIn line ≡ unseen 0x0D column)
+    → ((length line ≡ 50 → ⊥) → pictureIn line ≡ record { refusal = 0x0C; phase = 0; signals = 0; lines = 0; column = 0 })
+    × ((column : ℕ) → length line ≡ 50 → FirstWrong line column
+    → pictureIn line ≡ record { refusal = 0x0D; phase = 0; signals = 0; lines = 0; column = column })

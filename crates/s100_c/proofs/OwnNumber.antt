@@ -1,15 +1,14 @@
 -- No answer has the number of a wrong length: the refusals of 01 are small, and so are the bytes of an event's pictures.
 use mathlib.Core.Path.{_≡_, refl, _∙_}
 use mathlib.Core.Logic.{⊎-elim}
-use mathlib.Core.Bool.{Bool, true, false, cond, _&&_, and-eq-true-iff}
-use mathlib.Core.List.{List, [], _∷_}
+use mathlib.Core.Bool.{Bool, true, false}
+use mathlib.Core.List.{List}
 use Prim.Native.Nat.{ℕ, _<_}
 use native.Mathlib.Omega.{arith}
-use lib.Dec.{eqb, ltb, lit<}
+use lib.Dec.{eqb, lit<}
 use lib.ListN.{length}
-use borrow.Author.Tests.{ltb-true}
-use Rattle.words.specs.First.{Reason, firstOf}
 use Rattle.words.proofs.TestLaws.{true-or-false}
+use Rattle.words.proofs.FirstLaws.{first-below}
 use Rattle.bus.specs.Refusal.{wrongLength}
 use Rattle.bus.specs.Refusal as Refusal
 use Rattle.bus.specs.Sense.{codesKnown}
@@ -34,34 +33,19 @@ use Rattle.s100_c.specs.Calls.{setupFits, machineIn, placesFit}
 use Rattle.s100_c.specs.Promises.{WrongLengthIsOwn}
 use Rattle.s100_c.proofs.CallPromises.{setup-is-the-setup, step-is-the-step, settle-is-the-settle}
 
-abbrev allSmall : List Reason → Bool
-allSmall [] = true
-allSmall (r ∷ reasons) = ltb (r .number) wrongLength && allSmall reasons
-
-small : (b : Bool) {number later : ℕ} → number < wrongLength → later < wrongLength → cond b number later < wrongLength
-small true h l = h
-small false h l = l
-
-first-small : (reasons : List Reason) → allSmall reasons ≡ true → firstOf reasons < wrongLength
-unfolding firstOf
-first-small [] e = lit< tt
-first-small (r ∷ reasons) e =
-    let both = and-eq-true-iff (ltb (r .number) wrongLength) (allSmall reasons) .0 e in
-    small (r .applies) (ltb-true (r .number) wrongLength (both .0)) (first-small reasons (both .1))
-
 setup-small : (given : Chassis) → setupOf given .answer < wrongLength
 setup-small given = ⊎-elim (λ known. rw known (lit< tt)) (λ unknown. rw unknown (lit< tt)) (true-or-false (codesKnown given))
 
 refusal-small : (m : Machine) (event : Event) → refusalIn m event < wrongLength
 unfolding refusalOf
-refusal-small m event = first-small (reasonsAgainst (m .memory) (m .ports) (m .bus) event) refl
+refusal-small m event = first-below wrongLength (reasonsAgainst (m .memory) (m .ports) (m .bus) event) (lit< tt) refl
 
 settle-small : (bus : Bus) (cards : List ℕ) → settleOf bus cards .answer < wrongLength
 unfolding settleOf settleRefusal
 settle-small bus cards =
     ⊎-elim
     (λ ok. rw ok (lit< tt))
-    (λ refused. rw refused (first-small (settleReasons bus cards) refl))
+    (λ refused. rw refused (first-below wrongLength (settleReasons bus cards) (lit< tt) refl))
     (true-or-false (eqb (settleRefusal bus cards) Refusal.accepted))
 
 read-small : (line : List ℕ) → pictureIn line .refusal < wrongLength

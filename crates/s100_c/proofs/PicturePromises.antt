@@ -1,18 +1,14 @@
 -- The two calls on pictures do what the model does, or nothing.
-use mathlib.Core.Path.{_≡_, refl, ap, _∙_}
-use mathlib.Core.Bool.{Bool, true, false, _&&_}
-use mathlib.Core.List.{List}
-use Prim.Native.Nat.{ℕ}
+use mathlib.Core.Path.{_≡_, refl}
+use mathlib.Core.Bool.{Bool, true, false}
 use lib.Dec.{eqb}
 use lib.ListN.{length}
 use borrow.Author.Tests.{eq-eqb, ne-eqb, eqb-true}
 use Rattle.words.proofs.TestLaws.{both-of}
-use Rattle.events.specs.declared.answers.Answer.{Answer}
 use Rattle.pins.specs.Moments.{momentsOf}
-use Rattle.pins.specs.Picture.{mostPictured, picturesOf}
-use Rattle.pins.specs.ReadAgain.{pictureIn}
+use Rattle.pins.specs.Picture.{mostPictured}
 use Rattle.pins.proofs.ReadBack.{bad-picture-refused}
-use Rattle.s100_c.specs.Layout.{answerSize, answerBytes, answerIn}
+use Rattle.s100_c.specs.Layout.{answerSize, answerBytes}
 use Rattle.s100_c.specs.Pictures.{pictureFits, seenSize}
 use Rattle.s100_c.specs.Promises.{PictureIsThePicture, PictureMisfits, PictureReadIsThePicture, PictureReadRefused}
 use Rattle.s100_c.proofs.ReadBack.{answer-bytes-read-back}

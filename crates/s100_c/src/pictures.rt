@@ -1,6 +1,5 @@
 // Pictures of the pins: written for an accepted event, and read again.
 ghost use mathlib.Core.Path.{_≡_};
-ghost use Rattle.judgement.specs.Table.{eventOf};
 ghost use Rattle.s100_c.specs.Pictures.{pictureAnswers, pictureLeaves, readAnswers, readLeaves};
 use crate::answer_layout::ANSWER_SIZE;
 use crate::answer_layout::answer_in;

@@ -2,12 +2,12 @@
 use mathlib.Core.Path.{_≡_, refl, sym, ap, subst, _∙_}
 use mathlib.Core.Logic.{⊎-elim}
 use mathlib.Core.Bool.{true, false}
-use mathlib.Core.List.{List, [], _∷_}
+use mathlib.Core.List.{List}
 use Prim.Native.Nat.{ℕ, suc, _+_, _<_, _≤_}
 use native.Mathlib.Omega.{arith}
 use lib.Dec.{eqb}
 use lib.ListN.{length, take}
-use lib.Seq.{sets, take-at}
+use lib.Seq.{sets}
 use borrow.Author.Tests.{eqb-true}
 use Rattle.words.specs.Among.{everyListed}
 use Rattle.words.proofs.TestLaws.{true-or-false, both-of}
@@ -22,7 +22,7 @@ use Rattle.events.specs.declared.answers.Answer.{Answer}
 use Rattle.events.specs.declared.answers.Stepped.{Stepped}
 use Rattle.events.proofs.Refused.{sound-step-is-the-step}
 use Rattle.text.specs.Digits.{isDigit}
-use Rattle.text.specs.Newlines.{newline, hasNewline, firstLine, restOf}
+use Rattle.text.specs.Newlines.{hasNewline, firstLine, restOf}
 use Rattle.text.specs.Frames.{eventDigits, setupIn, nextLine}
 use Rattle.text.specs.declared.frames.BadLine.{BadLine}
 use Rattle.text.specs.declared.frames.Line.{Line}

@@ -1,12 +1,11 @@
 -- Lines of a session taken one after another: the loop's invariant, and what a turn makes of it.
-use mathlib.Core.Path.{_≡_, refl, sym, ap, subst, _∙_}
+use mathlib.Core.Path.{_≡_, refl, sym, ap, _∙_}
 use mathlib.Core.Logic.{_⊎_, ⊎-elim}
 use mathlib.Core.Bool.{Bool, true, false}
 use mathlib.Core.List.{List, []}
 use Prim.Native.Nat.{ℕ, zero, suc, _+_, _-_, _<_, _≤_}
 use native.Mathlib.Omega.{arith}
 use lib.ListN.{length, drop, length-drop}
-use lib.Seq.{sets}
 use borrow.Rule.Slice.PartMut.{midOf, putMid}
 use Rattle.words.proofs.TestLaws.{true-or-false}
 use Rattle.bus.specs.declared.state.Bus.{Bus}
@@ -16,11 +15,11 @@ use Rattle.text.specs.Digits.{isDigits}
 use Rattle.text.specs.Faults.{faultOf}
 use Rattle.text.specs.Frames.{eventDigits, eventIn, setupIn}
 use Rattle.text.specs.Newlines.{hasNewline, firstLine}
-use Rattle.text.specs.Reading.{Taken, lineOff}
+use Rattle.text.specs.Reading.{lineOff}
 use Rattle.text.proofs.ReadingLaws.{answer-long}
 use Rattle.text.proofs.TakingLaws.{Going, Gone, going-start, going-on, gone-unended, gone-full, some-line, no-line, line-used, part-behind, home}
 use Rattle.pins.proofs.DigitLaws.{pictures-fit}
-use Rattle.session.specs.World.{World, world, saysBy, says, turns, mostSaid, answering, eventSaid, machineOf, setupAnswer, setUpBy, faultAnswer}
+use Rattle.session.specs.World.{World, world, saysBy, says, mostSaid, answering, eventSaid, machineOf, setupAnswer, setUpBy, faultAnswer}
 use Rattle.session.specs.Feeding.{takes, takesFirst, told}
 use Rattle.session.specs.Promises.{SaysAtMost}
 use Rattle.session.specs.declared.state.Stage.{Stage}

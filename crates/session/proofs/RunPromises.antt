@@ -6,7 +6,7 @@ use mathlib.Core.List.{List, [], _∷_, _++_, append-nil}
 use Prim.Native.Nat.{ℕ, zero, suc, _+_, _-_, _*_, _<_, _≤_}
 use native.Mathlib.Decide.{decLe, ℕ-discrete}
 use native.Mathlib.Omega.{arith}
-use lib.Dec.{eqb}
+use lib.Dec.{eqb, lit<}
 use lib.ListN.{length, take, drop, replicate, length-append, length-take, length-drop, length-map, getD, List·getD-map}
 use lib.Seq.{take-all, getD-take, getD-drop}
 use borrow.Author.Tests.{eqb-true, eq-eqb, ne-eqb, le-leb}
@@ -14,6 +14,7 @@ use Rattle.words.specs.Below.{orBelow}
 use Rattle.words.specs.Among.{everyListed, beside}
 use Rattle.words.proofs.TestLaws.{true-or-false, both-of}
 use Rattle.words.proofs.ListLaws.{every-at}
+use Rattle.words.proofs.FirstLaws.{first-below}
 use Rattle.lines.specs.Arbitration.{shown}
 use Rattle.phases.specs.Phase as Phase
 use Rattle.phases.specs.Signal.{signalsIn}
@@ -26,6 +27,7 @@ use Rattle.bus.specs.declared.state.Bus.{Bus}
 use Rattle.bus.specs.declared.state.SetupAnswer.{SetupAnswer}
 use Rattle.events.specs.Machine.{Machine, machine}
 use Rattle.events.specs.Answers.{answerWith}
+use Rattle.judgement.specs.Judge.{reasonsAgainst, refusalOf}
 use Rattle.judgement.specs.declared.event.Event.{Event}
 use Rattle.events.specs.Step.{refusalIn, answerTo}
 use Rattle.events.proofs.Refused.{refused-keeps, answers-refusal}
@@ -43,13 +45,13 @@ use Rattle.text.proofs.ReadingLaws.{answer-long}
 use Rattle.pins.proofs.DigitLaws.{no-picture}
 use Rattle.session.specs.World.{World, world, says, turns, saysBy, turnsBy, setUpBy, setupAnswer, faultAnswer, afterEvent, freshWorld}
 use Rattle.session.specs.Output.{answers}
-use Rattle.session.specs.Promises.{EventTakesItsStep, WrongLengthAnswers, WrongCharacterAnswers, LinePictured, RefusedLineKeeps}
+use Rattle.session.specs.Promises.{EventTakesItsStep, WrongLengthAnswers, WrongCharacterAnswers, EventNumbers, LinePictured, RefusedLineKeeps}
 use Rattle.session.specs.Promises.{AcceptedSetupLeads, SetupInOrder, RefusedSetupEnds}
 use Rattle.session.specs.Promises.{EndedStays, CutChangesNothing, EmptyPrintsNothing, OneAnswerALine, StartsAtZero, setupNumber, answered}
 use Rattle.session.specs.declared.state.Stage.{Stage}
 use Rattle.session.specs.declared.state.Stage.the-variants.{Awaiting, Running, Ended}
 use Rattle.session.specs.declared.state.Wanted.{Wanted}
-use Rattle.session.specs.declared.state.Wanted.the-variants.{Answers, Pictures}
+use Rattle.session.specs.declared.state.Wanted.the-variants.{Answers}
 use Rattle.bus.proofs.SetUp.{setup-accepts, setup-refuses}
 
 -- ---- Events
@@ -66,6 +68,13 @@ pub wrong-character-answers : WrongCharacterAnswers
 unfolding saysBy digitsOf
 wrong-character-answers m line column size first =
     let so = wrong-first line column first in rw (eq-eqb (length line) eventDigits size, so .0, so .1) refl
+
+pub event-numbers : EventNumbers
+unfolding refusalOf
+event-numbers m line =
+    let event = eventIn line in
+    let below = first-below 0x0B (reasonsAgainst (m .memory) (m .ports) (m .bus) event) (lit< tt) refl in
+    omega (arith, answers-refusal m event, below)
 
 -- a refused event is answered its number
 refused-number : (m : Machine) (event : Event) → (refusalIn m event ≡ Refusal.accepted → ⊥) → answerTo m event .refusal ≡ Refusal.accepted → ⊥

@@ -50,6 +50,10 @@ WrongCharacterAnswers =
     (m : Machine) (line : List ℕ) (column : ℕ) → length line ≡ 14 → FirstWrong line column
     → says Answers (world Running (m .bus) (m .memory) (m .ports)) line ≡ 0x30 ∷ 0x44 ∷ replicate 12 0x30 ++ digitsOf 4 column ++ newline ∷ []
 
+-- No right line has either number: an event's is 0A at most.
+abbrev pub EventNumbers : Type 0
+EventNumbers = (m : Machine) (line : List ℕ) → answerTo m (eventIn line) .refusal ≤ 0x0A
+
 -- Where pictures are wanted, an event's line has the pictures of the event, which a refused one doesn't have, and another line has none.
 pub record PicturedLine (m : Machine) (line : List ℕ) : Type 0 where
   pub accepted : isDigits eventDigits line ≡ true → refusalIn m (eventIn line) ≡ Refusal.accepted

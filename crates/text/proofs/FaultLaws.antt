@@ -1,16 +1,15 @@
 -- The digits that a line leads with, and what is wrong with it.
 use mathlib.Core.Path.{_≡_, refl, sym, ap, subst, _∙_}
-use mathlib.Core.Logic.{_⊎_, inl, inr, _↔_, ⊎-elim}
-use mathlib.Core.Bool.{Bool, true, false, cond, not, _&&_, false≢true}
+use mathlib.Core.Logic.{_⊎_, inl, inr, ⊎-elim}
+use mathlib.Core.Bool.{Bool, true, false, cond, not, false≢true}
 use mathlib.Core.List.{List}
-use Prim.Native.Nat.{ℕ, suc, _+_, _-_, _<_, _≤_}
+use Prim.Native.Nat.{ℕ, _+_, _-_, _<_, _≤_}
 use native.Mathlib.Decide.{decLt, ℕ-discrete}
 use native.Mathlib.Omega.{arith}
 use lib.Dec.{eqb}
 use lib.ListN.{length, getD}
 use borrow.Author.Tests.{eqb-true, eqb-false, eq-eqb, ne-eqb, not-true, not-false}
 use Rattle.words.specs.Among.{everyListed}
-use Rattle.words.specs.First.{leastBelow}
 use Rattle.words.proofs.TestLaws.{true-or-false, tests-same, both-of}
 use Rattle.words.proofs.ListLaws.{every-at, every-of}
 use Rattle.words.proofs.FirstLaws.{least-passes, least-first, least-within, least-is}
@@ -18,7 +17,7 @@ use Rattle.bus.specs.Refusal.{accepted, wrongCharacter, wrongLineLength}
 use Rattle.text.specs.declared.frames.Fault.{Fault}
 use Rattle.text.specs.Digits.{isDigit, isDigits}
 use Rattle.text.specs.Faults.{fault, leadingDigits, wrongColumn, faultOf}
-use Rattle.text.specs.Promises.{FirstWrong, FaultTold, FaultsTold}
+use Rattle.text.specs.Promises.{FirstWrong, FaultsTold}
 use Rattle.text.proofs.DigitLaws.{not-all}
 
 -- ---- Leading digits
@@ -68,7 +67,10 @@ all-lead line e = every-of isDigit line (λ k h. leading-digits line k (omega (a
 
 pub not-all-lead : (line : List ℕ) → (leadingDigits line ≡ length line → ⊥) → everyListed isDigit line ≡ false
 not-all-lead line some =
-    ⊎-elim (λ all. absurd (some (sym (leading-end line (length line) refl (every-at isDigit line all))))) (λ none. none) (true-or-false (everyListed isDigit line))
+    ⊎-elim
+    (λ all. absurd (some (sym (leading-end line (length line) refl (every-at isDigit line all)))))
+    (λ none. none)
+    (true-or-false (everyListed isDigit line))
 
 -- which is how it can be asked
 pub all-counted : (count : ℕ) (line : List ℕ) → length line ≡ count → eqb (leadingDigits line) count ≡ everyListed isDigit line
@@ -132,8 +134,8 @@ misspelt count line column size f =
 
 -- the three ways, and what holds in each holds of every line
 pub by-fault : (count : ℕ) (line : List ℕ) (P : Fault → Type 0) → (isDigits count line ≡ true → P (fault accepted 0))
-    → ((length line ≡ count → ⊥) → P (fault wrongLineLength 0)) → (length line ≡ count → FirstWrong line (wrongColumn line) → P (fault wrongCharacter (wrongColumn line)))
-    → P (faultOf count line)
+    → ((length line ≡ count → ⊥) → P (fault wrongLineLength 0))
+    → (length line ≡ count → FirstWrong line (wrongColumn line) → P (fault wrongCharacter (wrongColumn line))) → P (faultOf count line)
 by-fault count line P right size character = go (eqb (length line) count) refl (everyListed isDigit line) refl
   where
     go : (long : Bool) → eqb (length line) count ≡ long → (all : Bool) → everyListed isDigit line ≡ all

@@ -43,6 +43,22 @@ first-none r reasons n e = go (r .applies) e
     go true given = absurd (true≢false (sym (eq-eqb _ _ given) ∙ n))
     go false rest = (refl, rest)
 
+-- where all numbers are below a bound, so is the one that is given
+abbrev pub numbersBelow : ℕ → List Reason → Bool
+numbersBelow bound [] = true
+numbersBelow bound (r ∷ reasons) = ltb (r .number) bound && numbersBelow bound reasons
+
+pub first-below : (bound : ℕ) (reasons : List Reason) → 0 < bound → numbersBelow bound reasons ≡ true → firstOf reasons < bound
+unfolding firstOf
+first-below bound [] some e = some
+first-below bound (r ∷ reasons) some e =
+    let both = and-eq-true-iff (ltb (r .number) bound) (numbersBelow bound reasons) .0 e in
+    go (r .applies) (ltb-true (r .number) bound (both .0)) (first-below bound reasons some (both .1))
+  where
+    go : (b : Bool) → r .number < bound → firstOf reasons < bound → cond b (r .number) (firstOf reasons) < bound
+    go true h l = h
+    go false h l = l
+
 -- ---- The first of reasons in the order of their numbers
 
 -- a reason that applies has a number above the bound

@@ -1,12 +1,10 @@
 -- By what the text begins with.
 use mathlib.Core.Path.{_≡_, sym, ap, _∙_}
-use mathlib.Core.List.{List}
-use Prim.Native.Nat.{ℕ}
 use native.Mathlib.Omega.{arith}
 use borrow.Author.Needs.{needs}
 use Rattle.text.specs.Frames.{nextLine}
 use Rattle.text.specs.declared.frames.Line.{Line}
-use Rattle.text.proofs.FrameLaws.{Spoilt, spoilt}
+use Rattle.text.proofs.FrameLaws.{spoilt}
 use Rattle.text.proofs.NewlineLaws.{line-within}
 use Rattle.session.proofs.LineLaws.{frame-taken, bad-taken, none-ended}
 use Rattle.feeding.proofs.taking.take_event.Statement.{statement}

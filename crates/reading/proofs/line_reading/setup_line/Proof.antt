@@ -2,7 +2,6 @@
 use mathlib.Core.Path.{_≡_, refl, sym, ap, _∙_}
 use mathlib.Core.Bool.{true}
 use borrow.Author.Needs.{needs}
-use Rattle.bus.specs.Refusal.{accepted}
 use Rattle.text.specs.declared.frames.Fault.{Fault}
 use Rattle.text.specs.Digits.{isDigits}
 use Rattle.text.specs.Frames.{setupDigits}

@@ -2,11 +2,10 @@
 use mathlib.Core.Path.{_≡_, refl, sym, ap, _∙_}
 use mathlib.Core.Bool.{true}
 use borrow.Author.Needs.{needs}
-use Rattle.bus.specs.Refusal.{accepted}
 use Rattle.text.specs.declared.frames.Fault.{Fault}
 use Rattle.text.specs.Digits.{isDigits}
 use Rattle.pins.specs.Picture.{pictureDigits}
-use Rattle.text.proofs.FaultLaws.{all-digits-of, no-fault, faultless, faulty}
+use Rattle.text.proofs.FaultLaws.{all-digits-of, faultless, faulty}
 use Rattle.pins.specs.ReadAgain.{pictureIn}
 use Rattle.reading.proofs.picture_reading.picture_line.Statement.{statement}
 use Rattle.reading.proofs.picture_reading.picture_line.Tie as tie
