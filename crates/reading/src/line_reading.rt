@@ -1,14 +1,15 @@
 // What a text begins with, and the two kinds of line that are read.
-ghost use mathlib.Core.Bool.{true, false, _&&_};
+ghost use mathlib.Core.Bool.{true};
 ghost use mathlib.Core.Path.{_≡_};
 ghost use Prim.Native.Nat.{_+_, _≤_};
 ghost use lib.ListN.{length};
 ghost use Rattle.words.specs.Among.{everyListed};
-ghost use Rattle.text.specs.Digits.{isDigit, numberOf, isDigits};
-ghost use Rattle.text.specs.Newlines.{hasNewline, firstLine};
-ghost use Rattle.text.specs.Frames.{digitsFrom, eventDigits, eventIn, nextLine, setupDigits, pagesIn, chassisIn, setupIn};
+ghost use Rattle.text.specs.Digits.{isDigit, numberOf};
+ghost use Rattle.text.specs.Newlines.{firstLine};
+ghost use Rattle.text.specs.Frames.{digitsFrom, eventDigits, eventIn, badLine, lineIn, nextLine, setupDigits, pagesIn, chassisIn, setupIn};
 use crate::digits::leading_digits;
 use crate::digits::value;
+use crate::faults::fault_by;
 use crate::faults::fault_of;
 use bus::Chassis;
 use bus::EMPTY_CHASSIS;
@@ -30,34 +31,49 @@ pub fn line_end(text: &[u8]) -> usize
     i
 }
 
-// A right event line is seen by the newline at its place; the end of any other line has to be looked for.
+// An event line is seen by the newline at its place; without one there the line has another length.
 pub fn next_line(text: &[u8]) -> Line
     ensures { λ r. ⌜ r ≡ nextLine (now (text .entry)) ⌝ }
 {
-    if leads_frame(text) {
-        Line::Frame(event_in(&text[..EVENT_DIGITS]))
-    } else {
-        let end = line_end(text);
-        if end < text.len() {
-            Line::Bad(BadLine {
-                size: end,
-                fault: fault_of(&text[..end], EVENT_DIGITS),
-            })
-        } else {
-            Line::Unended
+    if EVENT_DIGITS < text.len() {
+        if text[EVENT_DIGITS] == NEWLINE {
+            return closed_line(&text[..EVENT_DIGITS]);
         }
+    }
+    let end = line_end(text);
+    if end < text.len() {
+        Line::Bad(BadLine {
+            size: end,
+            fault: fault_by(end, 0, EVENT_DIGITS),
+        })
+    } else {
+        Line::Unended
     }
 }
 
-fn leads_frame(text: &[u8]) -> bool
-    ensures { λ r. ⌜ r ≡ (hasNewline (now (text .entry)) && isDigits eventDigits (firstLine (now (text .entry)))) ⌝ }
+// The line in fourteen bytes with a newline behind them; another newline among them ends it there.
+fn closed_line(line: &[u8]) -> Line
+    requires { ⌜ length (now line) ≡ eventDigits ⌝ }
+    ensures { λ r. ⌜ r ≡ lineIn (firstLine (now (line .entry))) ⌝ }
 {
-    if EVENT_DIGITS < text.len() {
-        if text[EVENT_DIGITS] == NEWLINE {
-            return leading_digits(&text[..EVENT_DIGITS]) == EVENT_DIGITS;
-        }
+    if leading_digits(line) == EVENT_DIGITS {
+        Line::Frame(event_in(line))
+    } else {
+        Line::Bad(bad_line(line))
     }
-    false
+}
+
+// Its end is looked for behind the digits that lead.
+fn bad_line(line: &[u8]) -> BadLine
+    requires { ⌜ length (now line) ≡ eventDigits ⌝ }
+    ensures { λ r. ⌜ r ≡ badLine (firstLine (now (line .entry))) ⌝ }
+{
+    let leading = leading_digits(line);
+    let end = leading + line_end(&line[leading..]);
+    BadLine {
+        size: end,
+        fault: fault_by(end, leading, EVENT_DIGITS),
+    }
 }
 
 fn event_in(line: &[u8]) -> Event

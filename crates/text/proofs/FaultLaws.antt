@@ -10,7 +10,7 @@ use lib.Dec.{eqb}
 use lib.ListN.{length, getD}
 use borrow.Author.Tests.{eqb-true, eqb-false, eq-eqb, ne-eqb, not-true, not-false}
 use Rattle.words.specs.Among.{everyListed}
-use Rattle.words.proofs.TestLaws.{true-or-false, tests-same, both-of}
+use Rattle.words.proofs.TestLaws.{true-or-false, both-of}
 use Rattle.words.proofs.ListLaws.{every-at, every-of}
 use Rattle.words.proofs.FirstLaws.{least-passes, least-first, least-within, least-is}
 use Rattle.bus.specs.Refusal.{accepted, wrongCharacter, wrongLineLength}
@@ -65,19 +65,11 @@ leading-end line place end digits = go (decLt (leadingDigits line) (length line)
 pub all-lead : (line : List ℕ) → leadingDigits line ≡ length line → everyListed isDigit line ≡ true
 all-lead line e = every-of isDigit line (λ k h. leading-digits line k (omega (arith, e, h)))
 
-pub not-all-lead : (line : List ℕ) → (leadingDigits line ≡ length line → ⊥) → everyListed isDigit line ≡ false
-not-all-lead line some =
-    ⊎-elim
-    (λ all. absurd (some (sym (leading-end line (length line) refl (every-at isDigit line all)))))
-    (λ none. none)
-    (true-or-false (everyListed isDigit line))
+pub leads-all : (line : List ℕ) → everyListed isDigit line ≡ true → leadingDigits line ≡ length line
+leads-all line all = sym (leading-end line (length line) refl (every-at isDigit line all))
 
--- which is how it can be asked
-pub all-counted : (count : ℕ) (line : List ℕ) → length line ≡ count → eqb (leadingDigits line) count ≡ everyListed isDigit line
-all-counted count line size =
-    tests-same (eqb (leadingDigits line) count) (everyListed isDigit line)
-    (λ e. all-lead line (eqb-true (leadingDigits line) count e ∙ sym size))
-    (λ all. eq-eqb (leadingDigits line) count (sym (leading-end line (length line) refl (every-at isDigit line all)) ∙ size))
+pub not-all-lead : (line : List ℕ) → (leadingDigits line ≡ length line → ⊥) → everyListed isDigit line ≡ false
+not-all-lead line some = ⊎-elim (λ all. absurd (some (leads-all line all))) (λ none. none) (true-or-false (everyListed isDigit line))
 
 -- ---- The first wrong character
 

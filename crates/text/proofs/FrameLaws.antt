@@ -1,102 +1,85 @@
--- Where a text begins with a right event line; what else it may begin with.
+-- The line in so many bytes, and what a text begins with.
 use mathlib.Core.Path.{_≡_, refl, sym, ap, subst, _∙_}
 use mathlib.Core.Logic.{⊎-elim}
-use mathlib.Core.Bool.{Bool, true, false, cond, _&&_}
-use mathlib.Core.List.{List, [], _∷_}
-use Prim.Native.Nat.{ℕ, zero, suc, _+_, _<_, _≤_}
+use mathlib.Core.Bool.{Bool, true, false, cond}
+use mathlib.Core.List.{List}
+use Prim.Native.Nat.{ℕ, _+_, _-_, _<_, _≤_}
 use native.Mathlib.Omega.{arith}
 use lib.Dec.{eqb}
-use lib.ListN.{length, getD, take}
-use lib.Seq.{take-at, getD-at, getD-take, length-take-le}
+use lib.ListN.{length, getD, take, drop, length-drop}
+use lib.Seq.{take-all}
 use borrow.Author.Tests.{eqb-true, eq-eqb, ne-eqb}
 use Rattle.words.specs.Among.{everyListed}
-use Rattle.words.proofs.TestLaws.{true-or-false, tests-same, both-of}
+use Rattle.words.proofs.TestLaws.{true-or-false, both-of}
 use Rattle.words.proofs.ListLaws.{every-at}
 use Rattle.judgement.specs.declared.event.Event.{Event}
 use Rattle.text.specs.declared.frames.BadLine.{BadLine}
 use Rattle.text.specs.declared.frames.Line.{Line}
 use Rattle.text.specs.declared.frames.Line.the-variants.{Frame, Bad, Unended}
 use Rattle.text.specs.Digits.{isDigit, isDigits}
-use Rattle.text.specs.Newlines.{newline, hasNewline, firstLine, restOf}
-use Rattle.text.specs.Faults.{fault, faultOf}
-use Rattle.text.specs.Frames.{eventDigits, eventIn, badLine, nextLine, lineNumber, lineColumn, lineBytes}
+use Rattle.text.specs.Newlines.{newline, hasNewline, firstLine}
+use Rattle.text.specs.Faults.{fault, leadingDigits, faultOf}
+use Rattle.text.specs.Frames.{eventDigits, eventIn, badLine, lineIn, nextLine, lineNumber, lineColumn, lineBytes}
 use Rattle.text.specs.Promises.{LinesTold}
 use Rattle.text.proofs.DigitLaws.{digit-kinds}
-use Rattle.text.proofs.FaultLaws.{no-fault}
-use Rattle.text.proofs.NewlineLaws.{splits, unended, line-within}
+use Rattle.text.proofs.FaultLaws.{leading-within, leading-digits, leads-all, all-digits-of, no-fault}
+use Rattle.text.proofs.NewlineLaws.{unended, line-within, newline-at, whole-line, line-past}
 
 -- no digit ends a line
 digit-stays : (b : ℕ) → isDigit b ≡ true → b ≡ newline → ⊥
 digit-stays b e n = ⊎-elim (λ low. omega (arith, low .0, n)) (λ high. omega (arith, high .0, n)) (digit-kinds b e)
 
--- the first newline is the one with none before it
-pub first-at : (k : ℕ) (text : List ℕ) → k < length text → ((i : ℕ) → i < k → getD text i 0 ≡ newline → ⊥) → getD text k 0 ≡ newline
-    → (firstLine text ≡ take k text) × (hasNewline text ≡ true)
-unfolding firstLine hasNewline
-first-at zero (b ∷ text) h none ends = rw (eq-eqb b newline ends) (refl, refl)
-first-at (suc k) (b ∷ text) h none ends =
-    let so = first-at k text (omega (arith, h)) (λ i below. none (suc i) (omega (arith, below))) ends in
-    rw (ne-eqb b newline (none 0 (omega arith))) (ap (λ (l : List ℕ). b ∷ l) (so .0), so .1)
-first-at k [] h none ends = absurd (omega (arith, h))
+-- ---- A line, and what a text begins with
 
--- the text begins with fourteen digits and a newline
-abbrev leads : List ℕ → Bool
-leads text = hasNewline text && isDigits eventDigits (firstLine text)
-
-pub record Led (text : List ℕ) : Type 0 where
-  pub long : eventDigits < length text
-  pub ends : getD text eventDigits 0 ≡ newline
-  pub line : firstLine text ≡ take eventDigits text
-  pub right : everyListed isDigit (take eventDigits text) ≡ true
-
-pub led : (text : List ℕ) → leads text ≡ true → Led text
-led text e =
-    let both = both-of (hasNewline text) (isDigits eventDigits (firstLine text)) e in
-    let digits = both-of (eqb (length (firstLine text)) eventDigits) (everyListed isDigit (firstLine text)) (both .1) in
-    let size : length (firstLine text) ≡ eventDigits = eqb-true (length (firstLine text)) eventDigits (digits .0) in
-    let line : firstLine text ≡ take eventDigits text =
-    sym (ap (take eventDigits) (splits text (both .0)) ∙ take-at (firstLine text) (newline ∷ restOf text) eventDigits size) in
-    record {
-      long = omega (arith, size, line-within text (both .0));
-      ends = ap (λ (l : List ℕ). getD l eventDigits 0) (splits text (both .0)) ∙ getD-at (firstLine text) newline (restOf text) 0 eventDigits size;
-      line = line;
-      right = subst (λ (l : List ℕ). everyListed isDigit l ≡ true) line (digits .1);
-    }
-
-pub lead-of : (text : List ℕ) → eventDigits < length text → getD text eventDigits 0 ≡ newline → everyListed isDigit (take eventDigits text) ≡ true
-    → leads text ≡ true
-lead-of text h ends right =
-    let size : length (take eventDigits text) ≡ eventDigits = length-take-le eventDigits text (omega (arith, h)) in
-    let so = first-at eventDigits text h
-    (λ i below n.
-    let inside = every-at isDigit (take eventDigits text) right i (omega (arith, size, below)) in
-    digit-stays (getD text i 0) (subst (λ (b : ℕ). isDigit b ≡ true) (getD-take eventDigits text i 0 below) inside) n)
-    ends in
-    rw (so .0, so .1, right) (ap (λ (n : ℕ). eqb n eventDigits && true) size)
-
--- a text is led by a frame exactly where the code finds one
-pub lead-found : (text : List ℕ) → eventDigits < length text → getD text eventDigits 0 ≡ newline → everyListed isDigit (take eventDigits text) ≡ leads text
-lead-found text h ends = tests-same (everyListed isDigit (take eventDigits text)) (leads text) (lead-of text h ends) (λ e. led text e .right)
-
-pub no-lead : (text : List ℕ) → (Led text → ⊥) → false ≡ leads text
-no-lead text none = ⊎-elim (λ e. absurd (none (led text e))) (λ e. sym e) (true-or-false (leads text))
-
--- ---- The next line
-
-pub frame-next : (text : List ℕ) → leads text ≡ true → Line.Frame (eventIn (take eventDigits text)) ≡ nextLine text
-frame-next text e =
-    let both = both-of (hasNewline text) (isDigits eventDigits (firstLine text)) e in
-    ap (λ (l : List ℕ). Line.Frame (eventIn l)) (sym (led text e .line)) ∙ rw (both .0, both .1) refl
-
-pub bad-next : (text : List ℕ) → leads text ≡ false → length (firstLine text) < length text → Line.Bad (badLine (firstLine text)) ≡ nextLine text
-bad-next text e shorter =
+-- a line of digits has no newline in it
+digits-whole : (line : List ℕ) → everyListed isDigit line ≡ true → firstLine line ≡ line
+digits-whole line all =
     ⊎-elim
-    (λ (has : hasNewline text ≡ true).
-    let wrong : isDigits eventDigits (firstLine text) ≡ false =
-    subst (λ (t : Bool). (t && isDigits eventDigits (firstLine text)) ≡ false) has e in
-    rw (has, wrong) refl)
-    (λ has. absurd (omega (arith, shorter, ap length (unended text has))))
-    (true-or-false (hasNewline text))
+    (λ has.
+    let end = length (firstLine line) in
+    let here = line-within line has in
+    absurd (digit-stays (getD line end 0) (every-at isDigit line all end here) (newline-at line has)))
+    (unended line)
+    (true-or-false (hasNewline line))
+
+pub frame-in : (line : List ℕ) → length line ≡ eventDigits → everyListed isDigit line ≡ true → Line.Frame (eventIn line) ≡ lineIn (firstLine line)
+frame-in line size all = rw (digits-whole line all, eq-eqb (length line) eventDigits size, all) refl
+
+pub bad-in : (line : List ℕ) → isDigits eventDigits line ≡ false → Line.Bad (badLine line) ≡ lineIn line
+bad-in line wrong = rw wrong refl
+
+-- where so many bytes aren't all digits, neither is the line in them
+pub not-framed : (line : List ℕ) → length line ≡ eventDigits → (leadingDigits line ≡ eventDigits → ⊥) → isDigits eventDigits (firstLine line) ≡ false
+not-framed line size fewer =
+    ⊎-elim
+    (λ right.
+    let both = all-digits-of eventDigits (firstLine line) right in
+    let whole = whole-line line (both .0 ∙ sym size) in
+    absurd (fewer (leads-all line (subst (λ (l : List ℕ). everyListed isDigit l ≡ true) whole (both .1)) ∙ size)))
+    (λ wrong. wrong)
+    (true-or-false (isDigits eventDigits (firstLine line)))
+
+-- digits are passed over where the end of a line is looked for
+pub digits-passed : (line : List ℕ) (leading end : ℕ) → leading ≡ leadingDigits line
+    → end ≡ length (firstLine (take (length line - leading) (drop leading line))) → leading + end ≡ length (firstLine line)
+digits-passed line leading end is found =
+    let rest : take (length line - leading) (drop leading line) ≡ drop leading line =
+    take-all (length line - leading) (drop leading line) (omega (arith, length-drop leading line)) in
+    let past = line-past line leading (omega (arith, is, leading-within line))
+    (λ k h. digit-stays (getD line k 0) (leading-digits line k (omega (arith, is, h)))) in
+    omega (arith, found, ap (λ (l : List ℕ). length (firstLine l)) rest, past)
+
+-- where the newline doesn't stand at its place the length is wrong
+pub not-at-place : (text : List ℕ) → hasNewline text ≡ true → (eventDigits < length text → getD text eventDigits 0 ≡ newline → ⊥)
+    → length (firstLine text) ≡ eventDigits → ⊥
+not-at-place text has none size =
+    none (omega (arith, size, line-within text has)) (ap (λ (k : ℕ). getD text k 0) (sym size) ∙ newline-at text has)
+
+pub other-length : (line : List ℕ) → (length line ≡ eventDigits → ⊥) → isDigits eventDigits line ≡ false
+other-length line other = rw (ne-eqb (length line) eventDigits other) refl
+
+pub ended-next : (text : List ℕ) → hasNewline text ≡ true → lineIn (firstLine text) ≡ nextLine text
+ended-next text has = rw has refl
 
 pub unended-next : (text : List ℕ) → length text ≤ length (firstLine text) → Line.Unended ≡ nextLine text
 unended-next text whole =

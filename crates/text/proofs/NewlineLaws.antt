@@ -3,11 +3,11 @@ use mathlib.Core.Path.{_≡_, refl, sym, ap, subst, _∙_}
 use mathlib.Core.Logic.{⊎-elim}
 use mathlib.Core.Bool.{true, false, false≢true}
 use mathlib.Core.List.{List, [], _∷_, _++_}
-use Prim.Native.Nat.{ℕ, zero, suc, _<_, _≤_}
+use Prim.Native.Nat.{ℕ, zero, suc, _+_, _<_, _≤_}
 use native.Mathlib.Omega.{arith}
 use lib.Dec.{eqb}
 use lib.ListN.{length, getD, take, drop, length-append}
-use lib.Seq.{drop-cons, drop-length, take-at}
+use lib.Seq.{drop-cons, drop-length, take-at, getD-at}
 use borrow.Author.Tests.{eqb-true, eqb-false, eq-eqb, ne-eqb}
 use Rattle.words.proofs.TestLaws.{true-or-false, else-of, neither-of}
 use Rattle.text.specs.Newlines.{newline, hasNewline, firstLine, restOf}
@@ -73,6 +73,39 @@ line-on text i h e = ap (λ (l : List ℕ). length (firstLine l)) (drop-cons tex
 pub line-none : (text : List ℕ) → firstLine (drop (length text) text) ≡ []
 unfolding firstLine
 line-none text = ap firstLine (drop-length text)
+
+pub line-short : (text : List ℕ) → length (firstLine text) ≤ length text
+line-short text =
+    ⊎-elim (λ has. omega (arith, line-within text has)) (λ none. omega (arith, ap length (unended text none))) (true-or-false (hasNewline text))
+
+-- behind the first line stands a newline
+pub newline-at : (text : List ℕ) → hasNewline text ≡ true → getD text (length (firstLine text)) 0 ≡ newline
+newline-at text has =
+    ap (λ (l : List ℕ). getD l (length (firstLine text)) 0) (splits text has)
+    ∙ getD-at (firstLine text) newline (restOf text) 0 (length (firstLine text)) refl
+
+-- so a line that is as long as the text is the text
+pub whole-line : (line : List ℕ) → length (firstLine line) ≡ length line → firstLine line ≡ line
+whole-line line size =
+    ⊎-elim (λ has. absurd (omega (arith, size, line-within line has))) (unended line) (true-or-false (hasNewline line))
+
+-- a text with a newline at a place has its first line before it
+pub first-before : (k : ℕ) (text : List ℕ) → k < length text → getD text k 0 ≡ newline → (hasNewline text ≡ true) × (firstLine (take k text) ≡ firstLine text)
+unfolding firstLine hasNewline
+first-before k [] h ends = absurd (omega (arith, h))
+first-before zero (b ∷ text) h ends = rw (eq-eqb b newline ends) (refl, refl)
+first-before (suc k) (b ∷ text) h ends =
+    ⊎-elim
+    (λ t. rw t (refl, refl))
+    (λ t. let so = first-before k text (omega (arith, h)) ends in rw t (so .0, ap (λ (l : List ℕ). b ∷ l) (so .1)))
+    (true-or-false (eqb b newline))
+
+-- bytes that are no newline are passed over
+pub line-past : (text : List ℕ) (k : ℕ) → k ≤ length text → ((i : ℕ) → i < k → getD text i 0 ≡ newline → ⊥)
+    → k + length (firstLine (drop k text)) ≡ length (firstLine text)
+line-past text zero h none = omega arith
+line-past text (suc k) h none =
+    omega (arith, line-past text k (omega (arith, h)) (λ i below. none i (omega (arith, below))), line-on text k (omega (arith, h)) (none k (omega arith)))
 
 -- where there is no newline, no byte is one
 pub none-at : (text : List ℕ) → hasNewline text ≡ false → (i : ℕ) → i < length text → getD text i 0 ≡ newline → ⊥

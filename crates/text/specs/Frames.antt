@@ -39,12 +39,13 @@ eventIn line = eventOf (eventField 0 line) (eventField 1 line) (eventField 2 lin
 abbrev pub badLine : List ℕ → BadLine
 badLine line = record { size = length line; fault = faultOf eventDigits line }
 
--- What a text begins with: a line with an event, a bad line, or a line that isn't ended yet.
+-- A line that has ended is an event's or bad.
+abbrev pub lineIn : List ℕ → Line
+lineIn line = cond (isDigits eventDigits line) (Line.Frame (eventIn line)) (Line.Bad (badLine line))
+
+-- What a text begins with: such a line, or one that isn't ended yet.
 abbrev pub nextLine : List ℕ → Line
-nextLine text =
-    cond (hasNewline text)
-    (cond (isDigits eventDigits (firstLine text)) (Line.Frame (eventIn (firstLine text))) (Line.Bad (badLine (firstLine text))))
-    Line.Unended
+nextLine text = cond (hasNewline text) (lineIn (firstLine text)) Line.Unended
 
 -- its number as 01 and 02 have them: a frame is judged as its event is, and a line that isn't ended is not judged
 abbrev pub lineNumber : Line → ℕ
