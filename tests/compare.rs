@@ -169,7 +169,7 @@ fn kinds_pictured(both: &mut Both, chance: &mut Chance) {
     }
 }
 
-/// Each buffer of a picture and of its reading alone of a wrong length, which comes before refused events and wrong lines. Room for one
+/// Each buffer of a picture and of its reading alone of a wrong length, which comes before refused events and bad lines. Room for one
 /// line is wrong as well, also where there is no second.
 fn wrong_lengths_of_pictures(both: &mut Both, chance: &mut Chance, cases: usize) {
     for case in 0..cases {

@@ -76,8 +76,8 @@ def print_pictures(kind, address, answer):
         levels, driven = line[:25], line[25:]
         carried = (f"{name} {number_on(pins, levels):02X}" for name, pins in DATA_PINS.items() if number_on(pins, driven) == 0xFF)
         print(f"  levels {levels}, driven {driven}:", *carried)
-    _, seen = read_picture(lines[0])
-    print(f"  the first line read back: phase {seen.phase}, signals {true_signals(seen)}, priority lines {seen.lines}")
+    answer, seen = read_picture(lines[0])
+    print(f"  the first line read back: answer {answer:02X}, phase {seen.phase}, signals {true_signals(seen)}, priority lines {seen.lines}")
 
 
 def print_misread(title, line):

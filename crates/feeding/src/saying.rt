@@ -24,7 +24,7 @@ pub fn most_said(wanted: Wanted) -> usize
     }
 }
 
-// The number of a bad line, and the column of its first wrong character.
+// The number of a bad line, and behind 0D the column of its first wrong character.
 pub fn fault_answer(fault: Fault) -> Answer
     ensures { λ r. ⌜ r ≡ faultAnswer fault ⌝ }
 {

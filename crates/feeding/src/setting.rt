@@ -46,7 +46,7 @@ fn refused_setup(refusal: u8) -> SetupAnswer
     }
 }
 
-// A refusal is shown alone, with the column of a wrong character.
+// Behind a refusal stands nothing but the column of a wrong character.
 pub fn setup_answer(fault: Fault, given: SetupAnswer) -> Answer
     ensures { λ r. ⌜ r ≡ setupAnswer fault given ⌝ }
 {

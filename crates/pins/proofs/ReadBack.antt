@@ -34,7 +34,7 @@ use Rattle.pins.specs.Pin.{pinTable, pinAt}
 use Rattle.pins.specs.Moments.{idleMoment, byteMoment, wordMoment, evenMoment, oddMoment}
 use Rattle.pins.specs.Picture.{pictureDigits, pictureOf, linesFor}
 use Rattle.pins.specs.ReadAgain.{trueOn, signalsOn, priorityLinesOn, phaseWith, seen, pictureIn}
-use Rattle.pins.specs.Promises.{ReadsBack, AlikePictured, BadPictureRefused, pictures}
+use Rattle.pins.specs.Promises.{ReadsBack, AlikePictured, FiftyDigitsRead, BadPictureRefused, pictures}
 use Rattle.pins.specs.declared.moments.Moment.{Moment}
 use Rattle.pins.specs.declared.moments.Seen.{Seen}
 use Rattle.pins.proofs.DigitLaws.{picture-long}
@@ -224,6 +224,10 @@ alike-pictured m n event other ok ok' same =
     ≡ seen (answerTo n other .phase) (answerTo n other .signals) (answerTo n other .lines) =
     sym (reads-back m event ok) ∙ ap pictureIn same ∙ reads-back n other ok' in
     (ap (λ (s : Seen). s .phase) told, (ap (λ (s : Seen). s .signals) told, ap (λ (s : Seen). s .lines) told))
+
+pub fifty-digits-read : FiftyDigitsRead
+unfolding pictureIn
+fifty-digits-read line right = rw right (refl, refl)
 
 pub bad-picture-refused : BadPictureRefused
 unfolding pictureIn

@@ -254,6 +254,10 @@ AlikePictured =
     → (answerTo m event .phase ≡ answerTo n other .phase)
     × ((answerTo m event .signals ≡ answerTo n other .signals) × (answerTo m event .lines ≡ answerTo n other .lines))
 
+-- Any fifty digits are read, whether some event has such a picture or not, and no column is told.
+abbrev pub FiftyDigitsRead : Type 0
+FiftyDigitsRead = (line : List ℕ) → isDigits 50 line ≡ true → (pictureIn line .refusal ≡ 0x00) × (pictureIn line .column ≡ 0)
+
 -- A line of another length is refused with 0C, whatever its bytes are, and nothing is told of it; one of fifty bytes with a wrong character with
 -- 0D, and the column of the first is told.
 abbrev pub BadPictureRefused : Type 0

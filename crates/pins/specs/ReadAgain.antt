@@ -86,7 +86,7 @@ seen phase signals lines = record { refusal = accepted; phase = phase; signals =
 abbrev pub seenOn : List ℕ → Seen
 seenOn line = seen (phaseWith (signalsOn line)) (signalsOn line) (priorityLinesOn line)
 
--- a line that can't be read: its number, and the column of its first wrong character (02, CR 2)
+-- a line that can't be read: its number, and behind 0D the column of its first wrong character, else 0 (02, CR 2)
 abbrev pub unseen : ℕ → ℕ → Seen
 unseen refusal column = record { refusal = refusal; phase = 0; signals = 0; lines = 0; column = column }
 

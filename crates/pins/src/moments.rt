@@ -19,7 +19,7 @@ pub struct Moment {
     pub dinDriven: bool,
 }
 
-// What the pins of a picture tell, or why its line can't be read; then in which column its first wrong character is, if it has one.
+// What the pins of a picture tell, or why its line can't be read; behind 0D the column of its first wrong character, and else 0.
 pub struct Seen {
     pub refusal: u8,
     pub phase: u8,

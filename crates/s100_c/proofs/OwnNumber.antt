@@ -1,4 +1,4 @@
--- No answer has the number of a wrong length: the refusals of 01 are small, and so are the bytes of an event's pictures.
+-- No answer has the number of a wrong length: the refusals are small, and so are the bytes of an event's pictures.
 use mathlib.Core.Path.{_≡_, refl, _∙_}
 use mathlib.Core.Logic.{⊎-elim}
 use mathlib.Core.Bool.{Bool, true, false}

@@ -1,6 +1,6 @@
 -- What each line is answered and leads to, and the whole output.
 use mathlib.Core.Path.{_≡_, refl, sym, ap, ap₂, subst, _∙_}
-use mathlib.Core.Logic.{_⊎_, ⊎-elim}
+use mathlib.Core.Logic.{_⊎_, _↔_, ⊎-elim}
 use mathlib.Core.Bool.{Bool, true, false, false≢true}
 use mathlib.Core.List.{List, [], _∷_, _++_, append-nil}
 use Prim.Native.Nat.{ℕ, zero, suc, _+_, _-_, _*_, _<_, _≤_}
@@ -40,12 +40,13 @@ use Rattle.text.specs.Promises.{FirstWrong}
 use Rattle.text.specs.Reading.{answersTo, mostHeld}
 use Rattle.text.specs.declared.frames.SetupLine.{SetupLine}
 use Rattle.text.proofs.DigitLaws.{digit-kinds, value-flat}
-use Rattle.text.proofs.FaultLaws.{wrong-first}
+use Rattle.text.proofs.FaultLaws.{wrong-first, all-digits-of, by-fault}
+use Rattle.text.proofs.ReadBack.{number-back}
 use Rattle.text.proofs.ReadingLaws.{answer-long}
 use Rattle.pins.proofs.DigitLaws.{no-picture}
 use Rattle.session.specs.World.{World, world, says, turns, saysBy, turnsBy, setUpBy, setupAnswer, faultAnswer, afterEvent, freshWorld}
 use Rattle.session.specs.Output.{answers}
-use Rattle.session.specs.Promises.{EventTakesItsStep, WrongLengthAnswers, WrongCharacterAnswers, EventNumbers, LinePictured, RefusedLineKeeps}
+use Rattle.session.specs.Promises.{EventTakesItsStep, WrongLineLengthAnswers, WrongCharacterAnswers, numberSaid, LineNumbers, LinePictured, RefusedLineKeeps}
 use Rattle.session.specs.Promises.{AcceptedSetupLeads, SetupInOrder, RefusedSetupEnds}
 use Rattle.session.specs.Promises.{EndedStays, CutChangesNothing, EmptyPrintsNothing, OneAnswerALine, StartsAtZero, setupNumber, answered}
 use Rattle.session.specs.declared.state.Stage.{Stage}
@@ -60,21 +61,55 @@ pub event-takes-its-step : EventTakesItsStep
 unfolding saysBy turnsBy
 event-takes-its-step m line right = rw right (refl, refl)
 
-pub wrong-length-answers : WrongLengthAnswers
+pub wrong-line-length-answers : WrongLineLengthAnswers
 unfolding saysBy digitsOf
-wrong-length-answers m line other = rw (ne-eqb (length line) eventDigits other) refl
+wrong-line-length-answers m line other = rw (ne-eqb (length line) eventDigits other) refl
 
 pub wrong-character-answers : WrongCharacterAnswers
 unfolding saysBy digitsOf
 wrong-character-answers m line column size first =
     let so = wrong-first line column first in rw (eq-eqb (length line) eventDigits size, so .0, so .1) refl
 
-pub event-numbers : EventNumbers
+-- an event's number is 0A at most
+event-number : (m : Machine) (event : Event) → answerTo m event .refusal < 0x0B
 unfolding refusalOf
-event-numbers m line =
-    let event = eventIn line in
-    let below = first-below 0x0B (reasonsAgainst (m .memory) (m .ports) (m .bus) event) (lit< tt) refl in
-    omega (arith, answers-refusal m event, below)
+event-number m event =
+    omega (arith, answers-refusal m event, first-below 0x0B (reasonsAgainst (m .memory) (m .ports) (m .bus) event) (lit< tt) refl)
+
+-- a right line is answered its event's number, and another the number of its fault
+right-number : (m : Machine) (line : List ℕ) → isDigits eventDigits line ≡ true → numberSaid m line ≡ answerTo m (eventIn line) .refusal
+unfolding saysBy
+right-number m line right =
+    rw right (number-back (answerTo m (eventIn line)) (omega (arith, event-number m (eventIn line))))
+
+fault-number : (m : Machine) (line : List ℕ) → isDigits eventDigits line ≡ false → numberSaid m line ≡ faultOf eventDigits line .refusal
+unfolding saysBy
+fault-number m line wrong =
+    rw wrong (number-back (faultAnswer (faultOf eventDigits line))
+    (by-fault eventDigits line (λ f. f .refusal < 256) (λ right. lit< tt) (λ other. lit< tt) (λ size first. lit< tt)))
+
+abbrev Numbers : Machine → List ℕ → Type 0
+Numbers m line =
+    ((numberSaid m line ≡ 0x0C) ↔ (length line ≡ 14 → ⊥)) × ((numberSaid m line ≡ 0x0D) ↔ ((length line ≡ 14) × (isDigits 14 line ≡ false)))
+
+pub line-numbers : LineNumbers
+line-numbers m line =
+    ⊎-elim
+    (λ right.
+    let number = right-number m line right in
+    let below = event-number m (eventIn line) in
+    let size = all-digits-of eventDigits line right .0 in (
+      (λ e. absurd (omega (arith, e, number, below)), λ other. absurd (other size)),
+      (λ e. absurd (omega (arith, e, number, below)), λ so. absurd (false≢true (sym (so .1) ∙ right))),
+    ))
+    (λ wrong.
+    let number = fault-number m line wrong in
+    by-fault eventDigits line (λ f. numberSaid m line ≡ f .refusal → Numbers m line)
+    (λ right. absurd (false≢true (sym wrong ∙ right)))
+    (λ other e. ((λ so. other, λ so. e), (λ so. absurd (omega (arith, so, e)), λ so. absurd (other (so .0)))))
+    (λ size first e. ((λ so. absurd (omega (arith, so, e)), λ other. absurd (other size)), (λ so. (size, wrong), λ so. e)))
+    number)
+    (true-or-false (isDigits eventDigits line))
 
 -- a refused event is answered its number
 refused-number : (m : Machine) (event : Event) → (refusalIn m event ≡ Refusal.accepted → ⊥) → answerTo m event .refusal ≡ Refusal.accepted → ⊥
@@ -241,7 +276,7 @@ module _ (bus : Bus) (m p line : List ℕ) (lines : List (List ℕ)) where
 
 pub setup-in-order : SetupInOrder
 setup-in-order bus m p line lines = record {
-  wrongLength = length-judged bus m p line lines;
+  wrongLineLength = length-judged bus m p line lines;
   wrongCharacter = characters-judged bus m p line lines;
   badPage = pages-judged bus m p line lines;
 }

@@ -10,7 +10,7 @@ use Rattle.bus.specs.Setup.{emptyBus}
 use Rattle.bus.specs.declared.state.Bus.{Bus}
 use Rattle.judgement.specs.Refusals.{hasWrongBuffers}
 use Rattle.text.specs.Newlines.{newline}
-use Rattle.text.specs.Examples.{wordWrite, thirteen, lowerA, withIn, setup}
+use Rattle.text.specs.Examples.{wordWrite, thirteen, lowerA, withByteIn, setup}
 use Rattle.session.specs.World.{fresh}
 use Rattle.session.specs.Feeding.{feedRefusal}
 use Rattle.session.specs.Output.{output}
@@ -34,8 +34,8 @@ freeLine = 0x30 ∷ 0x30 ∷ 0x30 ∷ 0x30 ∷ 0x46 ∷ 0x46 ∷ 0x30 ∷ 0x30 �
 abbrev pub pageRefused : List ℕ
 pageRefused = 0x30 ∷ 0x42 ∷ 0x30 ∷ 0x30 ∷ 0x30 ∷ 0x30 ∷ 0x30 ∷ 0x30 ∷ 0x30 ∷ 0x30 ∷ 0x30 ∷ 0x30 ∷ 0x30 ∷ 0x30 ∷ 0x30 ∷ 0x30 ∷ 0x30 ∷ 0x30 ∷ 0x0A ∷ []
 
-abbrev pub lineRefused : List ℕ
-lineRefused = 0x30 ∷ 0x43 ∷ 0x30 ∷ 0x30 ∷ 0x30 ∷ 0x30 ∷ 0x30 ∷ 0x30 ∷ 0x30 ∷ 0x30 ∷ 0x30 ∷ 0x30 ∷ 0x30 ∷ 0x30 ∷ 0x30 ∷ 0x30 ∷ 0x30 ∷ 0x30 ∷ 0x0A ∷ []
+abbrev pub lengthRefused : List ℕ
+lengthRefused = 0x30 ∷ 0x43 ∷ 0x30 ∷ 0x30 ∷ 0x30 ∷ 0x30 ∷ 0x30 ∷ 0x30 ∷ 0x30 ∷ 0x30 ∷ 0x30 ∷ 0x30 ∷ 0x30 ∷ 0x30 ∷ 0x30 ∷ 0x30 ∷ 0x30 ∷ 0x30 ∷ 0x0A ∷ []
 
 abbrev pub characterRefused : ℕ → ℕ → List ℕ
 characterRefused high low = 0x30 ∷ 0x44 ∷ replicate 14 0x30 ++ high ∷ low ∷ 0x0A ∷ []
@@ -46,24 +46,24 @@ pub record SetupOutputs : Type 0 where
   pub unended : output Answers setup ≡ freeLine
   -- Whatever follows a refused setup line is not answered.
   pub page : output Answers (page3 ++ newline ∷ setup ++ newline ∷ []) ≡ pageRefused
-  pub tooShort : output Answers (short ++ newline ∷ setup ++ newline ∷ []) ≡ lineRefused
+  pub tooShort : output Answers (short ++ newline ∷ setup ++ newline ∷ []) ≡ lengthRefused
   pub lowerCase : output Answers (lower ++ newline ∷ setup ++ newline ∷ []) ≡ characterRefused 0x30 0x34
   -- 0C before 0D, and 0D before 0B, though the page stands before the space in the last column; of two columns the first
-  pub shortLower : output Answers (take 19 lower ++ newline ∷ setup ++ newline ∷ []) ≡ lineRefused
+  pub shortLower : output Answers (take 19 lower ++ newline ∷ setup ++ newline ∷ []) ≡ lengthRefused
   pub pageAndSpace : output Answers (take 19 page3 ++ 0x20 ∷ newline ∷ setup ++ newline ∷ []) ≡ characterRefused 0x31 0x34
   pub twoWrong : output Answers (take 19 lower ++ 0x20 ∷ newline ∷ setup ++ newline ∷ []) ≡ characterRefused 0x30 0x34
   pub lowerUnended : output Answers lower ≡ characterRefused 0x30 0x34
-  pub blank : output Answers (newline ∷ setup ++ newline ∷ []) ≡ lineRefused
+  pub blank : output Answers (newline ∷ setup ++ newline ∷ []) ≡ lengthRefused
 
 -- After setup each bad line has its answer: an empty one, one like a setup line, and an unended one.
 pub record BadLineOutputs : Type 0 where
-  pub each : output Answers (setup ++ newline ∷ newline ∷ setup ++ newline ∷ 0x30 ∷ []) ≡ freeLine ++ lineRefused ++ lineRefused ++ lineRefused
+  pub each : output Answers (setup ++ newline ∷ newline ∷ setup ++ newline ∷ 0x30 ∷ []) ≡ freeLine ++ lengthRefused ++ lengthRefused ++ lengthRefused
   -- the columns of wrong characters, each of its own line; a carriage return behind fourteen digits, and behind thirteen
-  pub misspelt : output Answers (setup ++ newline ∷ withIn 14 0x4F ++ newline ∷ lowerA ++ newline ∷ withIn 1 0x00)
+  pub misspelt : output Answers (setup ++ newline ∷ withByteIn 14 0x4F ++ newline ∷ lowerA ++ newline ∷ withByteIn 1 0x00)
       ≡ freeLine ++ characterRefused 0x30 0x45 ++ characterRefused 0x30 0x32 ++ characterRefused 0x30 0x31
   pub returns : output Answers (setup ++ newline ∷ wordWrite ++ 0x0D ∷ newline ∷ thirteen ++ 0x0D ∷ newline ∷ [])
-      ≡ freeLine ++ lineRefused ++ characterRefused 0x30 0x45
-  pub cut : output Answers (setup ++ newline ∷ drop 1 lowerA ++ newline ∷ []) ≡ freeLine ++ lineRefused
+      ≡ freeLine ++ lengthRefused ++ characterRefused 0x30 0x45
+  pub cut : output Answers (setup ++ newline ∷ drop 1 lowerA ++ newline ∷ []) ≡ freeLine ++ lengthRefused
 
 -- ---- Pictures
 

@@ -39,8 +39,8 @@ EventTakesItsStep =
     ≡ world Running (after m (eventIn line) .bus) (after m (eventIn line) .memory) (after m (eventIn line) .ports))
 
 -- a line of another length, whatever its bytes are, is answered with 0C and zeros;
-abbrev pub WrongLengthAnswers : Type 0
-WrongLengthAnswers =
+abbrev pub WrongLineLengthAnswers : Type 0
+WrongLineLengthAnswers =
     (m : Machine) (line : List ℕ) → (length line ≡ 14 → ⊥)
     → says Answers (world Running (m .bus) (m .memory) (m .ports)) line ≡ 0x30 ∷ 0x43 ∷ replicate 16 0x30 ++ newline ∷ []
 
@@ -50,9 +50,15 @@ WrongCharacterAnswers =
     (m : Machine) (line : List ℕ) (column : ℕ) → length line ≡ 14 → FirstWrong line column
     → says Answers (world Running (m .bus) (m .memory) (m .ports)) line ≡ 0x30 ∷ 0x44 ∷ replicate 12 0x30 ++ digitsOf 4 column ++ newline ∷ []
 
--- No right line has either number: an event's is 0A at most.
-abbrev pub EventNumbers : Type 0
-EventNumbers = (m : Machine) (line : List ℕ) → answerTo m (eventIn line) .refusal ≤ 0x0A
+-- the number that an event line is answered with
+abbrev pub numberSaid : Machine → List ℕ → ℕ
+numberSaid m line = numberOf (take 2 (says Answers (world Running (m .bus) (m .memory) (m .ports)) line))
+
+-- It is 0C exactly if the line hasn't fourteen bytes, and 0D exactly if it has and not all of them are digits.
+abbrev pub LineNumbers : Type 0
+LineNumbers =
+    (m : Machine) (line : List ℕ)
+    → ((numberSaid m line ≡ 0x0C) ↔ (length line ≡ 14 → ⊥)) × ((numberSaid m line ≡ 0x0D) ↔ ((length line ≡ 14) × (isDigits 14 line ≡ false)))
 
 -- Where pictures are wanted, an event's line has the pictures of the event, which a refused one doesn't have, and another line has none.
 pub record PicturedLine (m : Machine) (line : List ℕ) : Type 0 where
@@ -100,7 +106,7 @@ AcceptedSetupLeads =
 -- A setup line of another length is refused with 0C, whatever its bytes are; then one with a wrong character with 0D and the column of the first,
 -- whatever its pages are; and then one with a page above 2 with 0B. Nothing is answered after it.
 pub record SetupJudged (bus : Bus) (memory ports line : List ℕ) (lines : List (List ℕ)) : Type 0 where
-  pub wrongLength : (length line ≡ 20 → ⊥)
+  pub wrongLineLength : (length line ≡ 20 → ⊥)
       → answers Answers (world Awaiting bus memory ports) (line ∷ lines) ≡ 0x30 ∷ 0x43 ∷ replicate 16 0x30 ++ newline ∷ []
   pub wrongCharacter : (column : ℕ) → length line ≡ 20 → FirstWrong line column
       → answers Answers (world Awaiting bus memory ports) (line ∷ lines) ≡ 0x30 ∷ 0x44 ∷ replicate 12 0x30 ++ digitsOf 4 column ++ newline ∷ []

@@ -112,8 +112,8 @@ right-line count line size all = rw (eq-eqb (length line) count size, all) refl
 pub no-fault : (count : ℕ) (line : List ℕ) → isDigits count line ≡ true → faultOf count line ≡ fault accepted 0
 no-fault count line right = let both = all-digits-of count line right in right-line count line (both .0) (both .1)
 
-pub wrong-length : (count : ℕ) (line : List ℕ) → (length line ≡ count → ⊥) → faultOf count line ≡ fault wrongLineLength 0
-wrong-length count line other = rw (ne-eqb (length line) count other) refl
+pub wrong-line-length : (count : ℕ) (line : List ℕ) → (length line ≡ count → ⊥) → faultOf count line ≡ fault wrongLineLength 0
+wrong-line-length count line other = rw (ne-eqb (length line) count other) refl
 
 pub wrong-character : (count : ℕ) (line : List ℕ) → length line ≡ count → everyListed isDigit line ≡ false
     → faultOf count line ≡ fault wrongCharacter (wrongColumn line)
@@ -172,10 +172,10 @@ faults-told count line = record {
         (λ size first e. absurd (omega (arith, e))),
     λ all. ap number (no-fault count line (is-all-digits count line all)),
   );
-  wrongLength = (
+  wrongLineLength = (
     by-fault count line (λ f. number f ≡ 0x0C → length line ≡ count → ⊥) (λ right e. absurd (omega (arith, e))) (λ other e. other)
         (λ size first e. absurd (omega (arith, e))),
-    λ other. ap number (wrong-length count line other),
+    λ other. ap number (wrong-line-length count line other),
   );
   wrongCharacter = λ column. (
     by-fault count line (λ f. f ≡ fault 0x0D column → (length line ≡ count) × FirstWrong line column)

@@ -7,7 +7,7 @@ use Prim.Native.Nat.{ℕ, zero, suc, _+_, _*_, _-_, _/_, _%_, _^_, _<_, _≤_}
 use native.Mathlib.Decide.{decLt}
 use native.Mathlib.Omega.{arith}
 use lib.Dec.{leb}
-use lib.ListN.{length, getD, length-append, List·getD-append, length-map}
+use lib.ListN.{take, length, getD, length-append, List·getD-append, length-map}
 use lib.Seq.{getD-append-add, take-all}
 use lib.Pow.{pow-add}
 use borrow.Author.Tests.{leb-true, leb-false, le-leb, lt-leb, eq-eqb}
@@ -231,6 +231,10 @@ answer-parts : (a : Answer) → answerOnLine (answerLine a) ≡ record {
 }
 unfolding digitsOf
 answer-parts a = refl
+
+-- the number alone
+pub number-back : (a : Answer) → a .refusal < 16 ^ 2 → numberOf (take 2 (answerLine a)) ≡ a .refusal
+number-back a fits = ap (λ (b : Answer). b .refusal) (answer-parts a) ∙ numbers-back 2 (a .refusal) fits
 
 pub answer-reads-back : AnswerReadsBack
 answer-reads-back a = (

@@ -60,7 +60,7 @@ pub record EventLines : Type 0 where
   pub tooLong : nextLine (fifteen ++ newline ∷ []) ≡ Line.Bad (bad 15 0x0C 0)
   pub misspelt : nextLine (lowerA ++ newline ∷ []) ≡ Line.Bad (bad 14 0x0D 2)
   pub empty : nextLine (newline ∷ wordWrite) ≡ Line.Bad (bad 0 0x0C 0)
-  -- the newline at its place ends another line
+  -- a newline stands behind fourteen bytes, but an earlier one ends the line
   pub cut : nextLine (take 3 wordWrite ++ newline ∷ drop 4 wordWrite ++ newline ∷ []) ≡ Line.Bad (bad 3 0x0C 0)
 
 abbrev pub setup : List ℕ
@@ -76,8 +76,8 @@ pub record SetupLines : Type 0 where
 -- ---- What is wrong with a line
 
 -- the word write with another byte in a column, counted from 1
-abbrev pub withIn : ℕ → ℕ → List ℕ
-withIn column b = take (column - 1) wordWrite ++ b ∷ drop column wordWrite
+abbrev pub withByteIn : ℕ → ℕ → List ℕ
+withByteIn column b = take (column - 1) wordWrite ++ b ∷ drop column wordWrite
 
 pub record WrongLines : Type 0 where
   pub nothing : faultOf 14 wordWrite ≡ fault 0x00 0
@@ -87,11 +87,11 @@ pub record WrongLines : Type 0 where
   pub shortAndMisspelt : faultOf 14 (drop 1 lowerA) ≡ fault 0x0C 0
   pub empty : faultOf 14 [] ≡ fault 0x0C 0
   -- the first column, one in the middle, the last; a NUL, a space, a letter O, a small letter, bytes above 7F
-  pub first : faultOf 14 (withIn 1 0x00) ≡ fault 0x0D 1
-  pub middle : faultOf 14 (withIn 7 0x20) ≡ fault 0x0D 7
-  pub last : faultOf 14 (withIn 14 0x4F) ≡ fault 0x0D 14
-  pub small : faultOf 14 (withIn 2 0x61) ≡ fault 0x0D 2
-  pub high : (faultOf 14 (withIn 9 0x80) ≡ fault 0x0D 9) × (faultOf 14 (withIn 10 0xFF) ≡ fault 0x0D 10)
+  pub first : faultOf 14 (withByteIn 1 0x00) ≡ fault 0x0D 1
+  pub middle : faultOf 14 (withByteIn 7 0x20) ≡ fault 0x0D 7
+  pub last : faultOf 14 (withByteIn 14 0x4F) ≡ fault 0x0D 14
+  pub small : faultOf 14 (withByteIn 2 0x61) ≡ fault 0x0D 2
+  pub high : (faultOf 14 (withByteIn 9 0x80) ≡ fault 0x0D 9) × (faultOf 14 (withByteIn 10 0xFF) ≡ fault 0x0D 10)
   -- thirteen digits and a carriage return
   pub shortWithReturn : faultOf 14 (thirteen ++ 0x0D ∷ []) ≡ fault 0x0D 14
   -- of several the first counts

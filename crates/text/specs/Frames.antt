@@ -53,7 +53,7 @@ lineNumber (Frame event) = accepted
 lineNumber (Bad bad) = bad .fault .refusal
 lineNumber Unended = accepted
 
--- the column of its first wrong character, and else 0
+-- where a character is to blame its column, and else 0
 abbrev pub lineColumn : Line → ℕ
 lineColumn (Frame event) = 0
 lineColumn (Bad bad) = bad .fault .column

@@ -31,7 +31,7 @@ pub record FaultTold (count : ℕ) (line : List ℕ) : Type 0 where
   -- it is right exactly if it has so many bytes, and each is a digit;
   pub right : (faultOf count line .refusal ≡ 0x00) ↔ ((length line ≡ count) × ((k : ℕ) → k < count → isDigit (getD line k 0) ≡ true))
   -- 0C exactly if its length is wrong, whatever its bytes are;
-  pub wrongLength : (faultOf count line .refusal ≡ 0x0C) ↔ (length line ≡ count → ⊥)
+  pub wrongLineLength : (faultOf count line .refusal ≡ 0x0C) ↔ (length line ≡ count → ⊥)
   -- 0D exactly if it has so many bytes and a first wrong one, and then that one's column is told;
   pub wrongCharacter : (column : ℕ) → (faultOf count line ≡ fault 0x0D column) ↔ ((length line ≡ count) × FirstWrong line column)
   -- nothing else, and no column with another number.

@@ -4,7 +4,7 @@ use native.Mathlib.Omega.{arith}
 use borrow.Author.Needs.{needs}
 use Rattle.bus.specs.Refusal.{wrongCharacter}
 use Rattle.text.specs.Faults.{fault}
-use Rattle.text.proofs.FaultLaws.{leading-within, all-lead, not-all-lead, right-line, wrong-character, wrong-length}
+use Rattle.text.proofs.FaultLaws.{leading-within, all-lead, not-all-lead, right-line, wrong-character, wrong-line-length}
 use Rattle.reading.proofs.faults.fault_by.Statement.{statement}
 use Rattle.reading.proofs.faults.fault_by.Tie as tie
 
@@ -23,7 +23,7 @@ returns-2 c line size leading =
     sym (right-line count line (size ∙ right) all)
 
 returns-3 : tie.Need-returns-3
-returns-3 c line size leading = sym (wrong-length (c .before .args .count) line (λ e. c .if1 .left (sym size ∙ e)))
+returns-3 c line size leading = sym (wrong-line-length (c .before .args .count) line (λ e. c .if1 .left (sym size ∙ e)))
 
 pub fault-by-spec : {M : Type 1} → statement M
 fault-by-spec = tie.close (tie.spec (λ c. search needs) (λ c. search needs) returns returns-2 returns-3)
