@@ -46,8 +46,8 @@ use Rattle.text.proofs.ReadingLaws.{answer-long}
 use Rattle.pins.proofs.DigitLaws.{no-picture}
 use Rattle.session.specs.World.{World, world, says, turns, saysBy, turnsBy, setUpBy, setupAnswer, faultAnswer, afterEvent, freshWorld}
 use Rattle.session.specs.Output.{answers}
-use Rattle.session.specs.Promises.{EventTakesItsStep, WrongLineLengthAnswers, WrongCharacterAnswers, numberSaid, LineNumbers, LinePictured, RefusedLineKeeps}
-use Rattle.session.specs.Promises.{AcceptedSetupLeads, SetupInOrder, RefusedSetupEnds}
+use Rattle.session.specs.Promises.{EventTakesItsStep, WrongLineLengthAnswers, WrongCharacterAnswers, numberSaid, LineNumbers}
+use Rattle.session.specs.Promises.{LinePictured, RefusedLineKeeps, AcceptedSetupLeads, SetupInOrder, RefusedSetupEnds}
 use Rattle.session.specs.Promises.{EndedStays, CutChangesNothing, EmptyPrintsNothing, OneAnswerALine, StartsAtZero, setupNumber, answered}
 use Rattle.session.specs.declared.state.Stage.{Stage}
 use Rattle.session.specs.declared.state.Stage.the-variants.{Awaiting, Running, Ended}
