@@ -12,11 +12,7 @@ pub fn fault_of(line: &[u8], count: usize) -> Fault
     requires { ⌜ count < 0x100 ⌝ }
     ensures { λ r. ⌜ r ≡ faultOf count (now (line .entry)) ⌝ }
 {
-    if line.len() == count {
-        fault_by(count, leading_digits(line), count)
-    } else {
-        fault_by(line.len(), 0, count)
-    }
+    fault_by(line.len(), leading_digits(line), count)
 }
 
 // By the bytes that it has and by the digits that lead, of which nothing is asked where the length is wrong.

@@ -1,4 +1,4 @@
--- By the line's own length, and its digits where that is right.
+-- By the line's own length and digits.
 use mathlib.Core.Path.{refl}
 use borrow.Author.Needs.{needs}
 use Rattle.reading.proofs.faults.fault_of.Statement.{statement}
@@ -10,10 +10,4 @@ fault-of-spec =
     (tie.spec
     (λ c κs. search needs)
     (λ c κs. search needs)
-    (λ c κs. search needs)
-    (λ c.
-    let then = c .before .before in
-    c .fault-by .ensures (then .before .before .args .line .now) (then .if1 .taken) (λ e. c .before .leading-digits .ensures))
-    (λ c.
-    let else = c .before in
-    c .fault-by2 .ensures (else .before .before .args .line .now) refl (λ e. absurd (else .if1 .left e))))
+    (λ c. c .fault-by .ensures (c .before .before .before .args .line .now) refl (λ e. c .before .leading-digits .ensures)))
