@@ -36,6 +36,7 @@ eventField n line = numberOf (nthPart n eventWidths line)
 abbrev pub eventIn : List ℕ → Event
 eventIn line = eventOf (eventField 0 line) (eventField 1 line) (eventField 2 line) (eventField 3 line)
 
+-- what is told of a line that is no event's
 abbrev pub badLine : List ℕ → BadLine
 badLine line = record { size = length line; fault = faultOf eventDigits line }
 
