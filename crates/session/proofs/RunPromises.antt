@@ -1,6 +1,6 @@
 -- What each line is answered and leads to, and the whole output.
 use mathlib.Core.Path.{_≡_, refl, sym, ap, ap₂, subst, _∙_}
-use mathlib.Core.Logic.{_⊎_, _↔_, ⊎-elim}
+use mathlib.Core.Logic.{_⊎_, ⊎-elim}
 use mathlib.Core.Bool.{Bool, true, false, false≢true}
 use mathlib.Core.List.{List, [], _∷_, _++_, append-nil}
 use Prim.Native.Nat.{ℕ, zero, suc, _+_, _-_, _*_, _<_, _≤_}
@@ -33,7 +33,7 @@ use Rattle.events.specs.Step.{refusalIn, answerTo}
 use Rattle.events.proofs.Refused.{refused-keeps, answers-refusal}
 use Rattle.text.specs.Digits.{isDigit, isDigits, valueOf, digitsOf}
 use Rattle.text.specs.Faults.{faultOf}
-use Rattle.text.specs.Newlines.{newline, lastLine, linesAfter, textLines}
+use Rattle.text.specs.Newlines.{lastLine, linesAfter, textLines}
 use Rattle.text.specs.Frames.{eventDigits, eventIn, setupDigits, longest, setupIn, digitsFrom, pagesIn, chassisIn}
 use Rattle.text.specs.AnswerLine.{answerLine, answerLength}
 use Rattle.text.specs.Promises.{FirstWrong}
@@ -46,7 +46,8 @@ use Rattle.text.proofs.ReadingLaws.{answer-long}
 use Rattle.pins.proofs.DigitLaws.{no-picture}
 use Rattle.session.specs.World.{World, world, says, turns, saysBy, turnsBy, setUpBy, setupAnswer, faultAnswer, afterEvent, freshWorld}
 use Rattle.session.specs.Output.{answers}
-use Rattle.session.specs.Promises.{EventTakesItsStep, WrongLineLengthAnswers, WrongCharacterAnswers, numberSaid, LineNumbers}
+use Rattle.session.specs.Promises.{lengthLine, characterLine, pageLine, EventTakesItsStep, WrongLineLengthAnswers, WrongCharacterAnswers}
+use Rattle.session.specs.Promises.{numberSaid, LineNumbered, LineNumbers}
 use Rattle.session.specs.Promises.{LinePictured, RefusedLineKeeps, AcceptedSetupLeads, SetupInOrder, RefusedSetupEnds}
 use Rattle.session.specs.Promises.{EndedStays, CutChangesNothing, EmptyPrintsNothing, OneAnswerALine, StartsAtZero, setupNumber, answered}
 use Rattle.session.specs.declared.state.Stage.{Stage}
@@ -88,27 +89,28 @@ fault-number m line wrong =
     rw wrong (number-back (faultAnswer (faultOf eventDigits line))
     (by-fault eventDigits line (λ f. f .refusal < 256) (λ right. lit< tt) (λ other. lit< tt) (λ size first. lit< tt)))
 
-abbrev Numbers : Machine → List ℕ → Type 0
-Numbers m line =
-    ((numberSaid m line ≡ 0x0C) ↔ (length line ≡ 14 → ⊥)) × ((numberSaid m line ≡ 0x0D) ↔ ((length line ≡ 14) × (isDigits 14 line ≡ false)))
-
 pub line-numbers : LineNumbers
 line-numbers m line =
     ⊎-elim
     (λ right.
     let number = right-number m line right in
     let below = event-number m (eventIn line) in
-    let size = all-digits-of eventDigits line right .0 in (
-      (λ e. absurd (omega (arith, e, number, below)), λ other. absurd (other size)),
-      (λ e. absurd (omega (arith, e, number, below)), λ so. absurd (false≢true (sym (so .1) ∙ right))),
-    ))
+    record {
+      wrongLineLength = (λ e. absurd (omega (arith, e, number, below)), λ other. absurd (other (all-digits-of eventDigits line right .0)));
+      wrongCharacter = (λ e. absurd (omega (arith, e, number, below)), λ so. absurd (false≢true (sym (so .1) ∙ right)));
+    })
     (λ wrong.
-    let number = fault-number m line wrong in
-    by-fault eventDigits line (λ f. numberSaid m line ≡ f .refusal → Numbers m line)
+    by-fault eventDigits line (λ f. numberSaid m line ≡ f .refusal → LineNumbered m line)
     (λ right. absurd (false≢true (sym wrong ∙ right)))
-    (λ other e. ((λ so. other, λ so. e), (λ so. absurd (omega (arith, so, e)), λ so. absurd (other (so .0)))))
-    (λ size first e. ((λ so. absurd (omega (arith, so, e)), λ other. absurd (other size)), (λ so. (size, wrong), λ so. e)))
-    number)
+    (λ other e. record {
+      wrongLineLength = (λ so. other, λ so. e);
+      wrongCharacter = (λ so. absurd (omega (arith, so, e)), λ so. absurd (other (so .0)));
+    })
+    (λ size first e. record {
+      wrongLineLength = (λ so. absurd (omega (arith, so, e)), λ other. absurd (other size));
+      wrongCharacter = (λ so. (size, wrong), λ so. e);
+    })
+    (fault-number m line wrong))
     (true-or-false (isDigits eventDigits line))
 
 -- a refused event is answered its number
@@ -245,14 +247,14 @@ module _ (bus : Bus) (m p line : List ℕ) (lines : List (List ℕ)) where
   ends-with number text is refused said = refused-setup-ends Answers bus m p line lines (λ e. refused (sym is ∙ e)) .0 ∙ said
 
   length-judged : (length line ≡ 20 → ⊥)
-      → answers Answers (world Awaiting bus m p) (line ∷ lines) ≡ 0x30 ∷ 0x43 ∷ replicate 16 0x30 ++ newline ∷ []
+      → answers Answers (world Awaiting bus m p) (line ∷ lines) ≡ lengthLine
   unfolding saysBy digitsOf
   length-judged other =
       let wrong = ne-eqb (length line) setupDigits other in
       ends-with Refusal.wrongLineLength _ (rw (wrong, setupNumber) refl) (λ e. omega (arith, e)) (rw wrong refl)
 
   characters-judged : (column : ℕ) → length line ≡ 20 → FirstWrong line column
-      → answers Answers (world Awaiting bus m p) (line ∷ lines) ≡ 0x30 ∷ 0x44 ∷ replicate 12 0x30 ++ digitsOf 4 column ++ newline ∷ []
+      → answers Answers (world Awaiting bus m p) (line ∷ lines) ≡ characterLine column
   unfolding saysBy digitsOf
   characters-judged column size first =
       let long = eq-eqb (length line) setupDigits size in
@@ -268,7 +270,7 @@ module _ (bus : Bus) (m p line : List ℕ) (lines : List (List ℕ)) where
       omega (arith, page-value line n h, high-value (getD line (4 + n) 0) is above)
 
   pages-judged : (n : ℕ) → n < 16 → isDigits 20 line ≡ true → 0x32 < getD line (4 + n) 0
-      → answers Answers (world Awaiting bus m p) (line ∷ lines) ≡ 0x30 ∷ 0x42 ∷ replicate 16 0x30 ++ newline ∷ []
+      → answers Answers (world Awaiting bus m p) (line ∷ lines) ≡ pageLine
   unfolding saysBy digitsOf
   pages-judged n h right above =
       let so = setup-refuses (chassisIn line) n (omega (arith, h, sixteen line right)) (high-page n h right above) in

@@ -30,6 +30,16 @@ use Rattle.session.specs.declared.state.Wanted.the-variants.{Answers, Pi
 
 -- ---- What a line is answered, and where it leads
 
+-- answer lines written out: 0C and zeros, 0D with zeros and a column, 0B and zeros
+abbrev pub lengthLine : List ℕ
+lengthLine = 0x30 ∷ 0x43 ∷ replicate 16 0x30 ++ newline ∷ []
+
+abbrev pub characterLine : ℕ → List ℕ
+characterLine column = 0x30 ∷ 0x44 ∷ replicate 12 0x30 ++ digitsOf 4 column ++ newline ∷ []
+
+abbrev pub pageLine : List ℕ
+pageLine = 0x30 ∷ 0x42 ∷ replicate 16 0x30 ++ newline ∷ []
+
 -- Once the bus is set up, a right line takes the step of its event and is answered with that step's answer;
 abbrev pub EventTakesItsStep : Type 0
 EventTakesItsStep =
@@ -42,23 +52,25 @@ EventTakesItsStep =
 abbrev pub WrongLineLengthAnswers : Type 0
 WrongLineLengthAnswers =
     (m : Machine) (line : List ℕ) → (length line ≡ 14 → ⊥)
-    → says Answers (world Running (m .bus) (m .memory) (m .ports)) line ≡ 0x30 ∷ 0x43 ∷ replicate 16 0x30 ++ newline ∷ []
+    → says Answers (world Running (m .bus) (m .memory) (m .ports)) line ≡ lengthLine
 
 -- one of this length with a wrong character with 0D, zeros, and in the last four digits the column of the first.
 abbrev pub WrongCharacterAnswers : Type 0
 WrongCharacterAnswers =
     (m : Machine) (line : List ℕ) (column : ℕ) → length line ≡ 14 → FirstWrong line column
-    → says Answers (world Running (m .bus) (m .memory) (m .ports)) line ≡ 0x30 ∷ 0x44 ∷ replicate 12 0x30 ++ digitsOf 4 column ++ newline ∷ []
+    → says Answers (world Running (m .bus) (m .memory) (m .ports)) line ≡ characterLine column
 
 -- the number that an event line is answered with
 abbrev pub numberSaid : Machine → List ℕ → ℕ
 numberSaid m line = numberOf (take 2 (says Answers (world Running (m .bus) (m .memory) (m .ports)) line))
 
 -- It is 0C exactly if the line hasn't fourteen bytes, and 0D exactly if it has and not all of them are digits.
+pub record LineNumbered (m : Machine) (line : List ℕ) : Type 0 where
+  pub wrongLineLength : (numberSaid m line ≡ 0x0C) ↔ (length line ≡ 14 → ⊥)
+  pub wrongCharacter : (numberSaid m line ≡ 0x0D) ↔ ((length line ≡ 14) × (isDigits 14 line ≡ false))
+
 abbrev pub LineNumbers : Type 0
-LineNumbers =
-    (m : Machine) (line : List ℕ)
-    → ((numberSaid m line ≡ 0x0C) ↔ (length line ≡ 14 → ⊥)) × ((numberSaid m line ≡ 0x0D) ↔ ((length line ≡ 14) × (isDigits 14 line ≡ false)))
+LineNumbers = (m : Machine) (line : List ℕ) → LineNumbered m line
 
 -- Where pictures are wanted, an event's line has the pictures of the event, which a refused one doesn't have, and another line has none.
 pub record PicturedLine (m : Machine) (line : List ℕ) : Type 0 where
@@ -107,11 +119,11 @@ AcceptedSetupLeads =
 -- whatever its pages are; and then one with a page above 2 with 0B. Nothing is answered after it.
 pub record SetupJudged (bus : Bus) (memory ports line : List ℕ) (lines : List (List ℕ)) : Type 0 where
   pub wrongLineLength : (length line ≡ 20 → ⊥)
-      → answers Answers (world Awaiting bus memory ports) (line ∷ lines) ≡ 0x30 ∷ 0x43 ∷ replicate 16 0x30 ++ newline ∷ []
+      → answers Answers (world Awaiting bus memory ports) (line ∷ lines) ≡ lengthLine
   pub wrongCharacter : (column : ℕ) → length line ≡ 20 → FirstWrong line column
-      → answers Answers (world Awaiting bus memory ports) (line ∷ lines) ≡ 0x30 ∷ 0x44 ∷ replicate 12 0x30 ++ digitsOf 4 column ++ newline ∷ []
+      → answers Answers (world Awaiting bus memory ports) (line ∷ lines) ≡ characterLine column
   pub badPage : (n : ℕ) → n < 16 → isDigits 20 line ≡ true → 0x32 < getD line (4 + n) 0
-      → answers Answers (world Awaiting bus memory ports) (line ∷ lines) ≡ 0x30 ∷ 0x42 ∷ replicate 16 0x30 ++ newline ∷ []
+      → answers Answers (world Awaiting bus memory ports) (line ∷ lines) ≡ pageLine
 
 abbrev pub SetupInOrder : Type 0
 SetupInOrder = (bus : Bus) (memory ports line : List ℕ) (lines : List (List ℕ)) → SetupJudged bus memory ports line lines
