@@ -93,10 +93,10 @@ disabling-on-pins = disabling-on
 
 -- ---- The lines of an event
 
-one-picture : (text : List ℕ) (x : Moment) (Shows : List ℕ → Type 0) → text ≡ linesFor (x ∷ []) → Shows (pictureOf x) → OneLine text Shows
+pub one-picture : (text : List ℕ) (x : Moment) (Shows : List ℕ → Type 0) → text ≡ linesFor (x ∷ []) → Shows (pictureOf x) → OneLine text Shows
 one-picture text x Shows is shows = record { line = pictureOf x; is = is ∙ one-line x; digits = fifty-digits x .0; shows = shows }
 
-two-pictures : (text : List ℕ) (x y : Moment) (First Second : List ℕ → Type 0) → text ≡ linesFor (x ∷ y ∷ []) → First (pictureOf x) → Second (pictureOf y)
+pub two-pictures : (text : List ℕ) (x y : Moment) (First Second : List ℕ → Type 0) → text ≡ linesFor (x ∷ y ∷ []) → First (pictureOf x) → Second (pictureOf y)
     → TwoLines text First Second
 two-pictures text x y First Second is first second = record {
   first = pictureOf x;

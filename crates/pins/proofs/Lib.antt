@@ -3,7 +3,9 @@ pub mod AsComputed
 pub mod DigitLaws
 pub mod GatherLaws
 pub mod PinLaws
+pub mod TopBitFirst
 pub mod MomentLaws
 pub mod AnswerLaws
 pub mod EventPictures
+pub mod AnyAnswer
 pub mod ReadBack

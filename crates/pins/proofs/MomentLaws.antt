@@ -31,10 +31,10 @@ use Rattle.pins.proofs.PinLaws.{high-is, driven-is, low-undriven}
 -- ---- Computed over phases and kinds
 
 -- two tests agree
-abbrev agree : Bool → Bool → Bool
+abbrev pub agree : Bool → Bool → Bool
 agree a b = cond a b (not b)
 
-agreed : (a b : Bool) → agree a b ≡ true → a ≡ b
+pub agreed : (a b : Bool) → agree a b ≡ true → a ≡ b
 agreed true true e = refl
 agreed true false e = sym e
 agreed false true e = e

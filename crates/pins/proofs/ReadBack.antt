@@ -3,7 +3,7 @@ use mathlib.Core.Path.{_≡_, refl, sym, ap, ap₂, _∙_}
 use mathlib.Core.Logic.{_⊎_, inl, inr, ⊎-elim}
 use mathlib.Core.Bool.{Bool, true, false, cond, not, _&&_, _||_, true≢false}
 use mathlib.Core.List.{List, [], _∷_, _++_, append-assoc}
-use Prim.Native.Nat.{ℕ, _+_, _<_, _≤_}
+use Prim.Native.Nat.{ℕ, _+_, _%_, _<_, _≤_}
 use native.Mathlib.Omega.{arith}
 use lib.Dec.{eqb}
 use lib.ListN.{length, take}
@@ -16,7 +16,7 @@ use Rattle.words.proofs.TestLaws.{true-or-false}
 use Rattle.words.proofs.BelowLaws.{same-below}
 use Rattle.phases.specs.Phase as Phase
 use Rattle.phases.specs.Kind as Kind
-use Rattle.phases.specs.Signal.{HOLD, pHLDA, ADSB, SDSB, DODSB, CDSB, SIXTN, sXTRQ, isOn, signalsIn}
+use Rattle.phases.specs.Signal.{HOLD, pHLDA, ADSB, SDSB, DODSB, CDSB, SIXTN, sXTRQ, isOn, signalTable, signalsIn}
 use Rattle.phases.specs.Control.{isReading, isWriting, strobeOf, controlIn}
 use Rattle.memory.specs.Halves.{evenHalf, oddHalf}
 use Rattle.judgement.specs.Table.{isCycle}
@@ -33,7 +33,8 @@ use Rattle.pins.specs.BusLine.{isDriven, isTrue}
 use Rattle.pins.specs.Pin.{pinTable, pinAt}
 use Rattle.pins.specs.Moments.{idleMoment, byteMoment, wordMoment, evenMoment, oddMoment}
 use Rattle.pins.specs.Picture.{pictureDigits, pictureOf, linesFor}
-use Rattle.pins.specs.ReadAgain.{trueOn, signalsOn, priorityLinesOn, phaseWith, seen, pictureIn}
+use Rattle.pins.specs.ReadAgain.{trueOn, signalsOn, priorityLinesOn, phaseUnknown, phaseWith, seen, pictureIn}
+use Rattle.pins.specs.Promises.{signalsByPins, priorityByPins, phaseOfSignals}
 use Rattle.pins.specs.Promises.{ReadsBack, AlikePictured, FiftyDigitsRead, BadPictureRefused, pictures}
 use Rattle.pins.specs.declared.moments.Moment.{Moment}
 use Rattle.pins.specs.declared.moments.Seen.{Seen}
@@ -225,9 +226,26 @@ alike-pictured m n event other ok ok' same =
     sym (reads-back m event ok) ∙ ap pictureIn same ∙ reads-back n other ok' in
     (ap (λ (s : Seen). s .phase) told, (ap (λ (s : Seen). s .signals) told, ap (λ (s : Seen). s .lines) told))
 
+-- ---- Any line
+
+signals-by-pins : (line : List ℕ) → signalsOn line ≡ signalsByPins line
+signals-by-pins line = omega (arith, signals-in-order line)
+
+priority-by-pins : (line : List ℕ) → priorityLinesOn line ≡ priorityByPins line
+priority-by-pins line = omega (arith, lines-in-order line)
+
+-- the phase that has some signals is the one that stands beside them: six of sixty-four have one
+phase-of-signals : (signals : ℕ) → phaseWith signals ≡ phaseOfSignals (signals % 0x40)
+unfolding allBelow beside whoHas
+phase-of-signals signals =
+    same-below (λ s. whoHas s signalTable phaseUnknown) phaseOfSignals 0x40 refl (signals % 0x40) (omega arith)
+
 pub fifty-digits-read : FiftyDigitsRead
 unfolding pictureIn
-fifty-digits-read line right = rw right (refl, refl)
+fifty-digits-read line right =
+    rw right (
+    ap (λ (s : ℕ). seen (phaseWith s) s (priorityLinesOn line)) (signals-by-pins line)
+    ∙ ap₂ (λ (p l : ℕ). seen p (signalsByPins line) l) (phase-of-signals (signalsByPins line)) (priority-by-pins line))
 
 pub bad-picture-refused : BadPictureRefused
 unfolding pictureIn

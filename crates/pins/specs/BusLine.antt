@@ -1,5 +1,6 @@
 -- The lines of the bus at one moment: which of them are driven, and which are true (02, CR 1).
 use Prim.Native.Nat.{ℕ}
+use Prim.Native.String.{String}
 use mathlib.Core.Bool.{Bool, true, false}
 use Rattle.words.specs.Bits.{bitAt}
 use Rattle.phases.specs.Signal.{sXTRQ, isOn}
@@ -22,10 +23,10 @@ pub data BusLine : Type 0 where
   control : ℕ → BusLine
   -- MWRT
   memoryWrite : BusLine
-  -- power, ground, and what the model lacks
-  unmodelled : BusLine
+  -- power, ground, and what the model lacks, by its name
+  unmodelled : String → BusLine
 
--- Outside a cycle nobody drives address, status or data; what is pulled up counts as driven, and so does MWRT.
+-- Address, status and data count as driven in a cycle alone; what is pulled up always does, and so do MWRT and the control outputs.
 abbrev pub isDriven : BusLine → Moment → Bool
 isDriven (address n) m = m .cyclic
 isDriven (dataOut n) m = m .doutDriven
@@ -36,7 +37,7 @@ isDriven (status weight) m = m .cyclic
 isDriven wordRequest m = m .cyclic
 isDriven (control weight) m = true
 isDriven memoryWrite m = true
-isDriven unmodelled m = false
+isDriven (unmodelled name) m = false
 
 abbrev pub isTrue : BusLine → Moment → Bool
 isTrue (address n) m = bitAt (m .address) n
@@ -48,4 +49,4 @@ isTrue (status weight) m = isOn weight (m .status)
 isTrue wordRequest m = isOn sXTRQ (m .signals)
 isTrue (control weight) m = isOn weight (m .control)
 isTrue memoryWrite m = isMWRT (m .control) (m .status)
-isTrue unmodelled m = false
+isTrue (unmodelled name) m = false

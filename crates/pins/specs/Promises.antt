@@ -1,10 +1,12 @@
 -- What is promised of pictures (02, CR 1). The proof of each stands in proofs/ under its name in lower case, with hyphens.
-use Prim.Native.Nat.{ℕ, _+_, _-_, _*_, _<_, _≤_}
+use Prim.Native.Nat.{ℕ, _+_, _-_, _*_, _%_, _<_, _≤_}
 use mathlib.Core.Path.{_≡_}
+use mathlib.Core.Logic.{_⊎_}
 use mathlib.Core.Bool.{Bool, true, false, cond, not, _&&_}
 use mathlib.Core.List.{List, [], _∷_, _++_}
-use lib.ListN.{length, getD, take}
-use Rattle.words.specs.Among.{isAmong, everyListed}
+use lib.ListN.{length, getD, take, drop}
+use Rattle.words.specs.Bits.{bitAt}
+use Rattle.words.specs.Among.{isAmong, everyListed, beside}
 use Rattle.phases.specs.Phase as Phase
 use Rattle.phases.specs.Kind as Kind
 use Rattle.phases.specs.Signal.{isOn}
@@ -14,7 +16,8 @@ use Rattle.judgement.specs.declared.event.Event.{Event}
 use Rattle.events.specs.Machine.{Machine}
 use Rattle.events.specs.Step.{refusalIn, after, answerTo}
 use Rattle.events.specs.Promises.{codeThere}
-use Rattle.text.specs.Digits.{isDigits}
+use Rattle.events.specs.declared.answers.Answer.{Answer}
+use Rattle.text.specs.Digits.{numberOf, isDigits}
 use Rattle.text.specs.Newlines.{newline}
 use Rattle.text.specs.Promises.{FirstWrong}
 use Rattle.pins.specs.BusLine.{isDriven}
@@ -29,7 +32,14 @@ use Rattle.pins.specs.declared.moments.Moment.{Moment}
 abbrev pub FiftyDigits : Type 0
 FiftyDigits = (m : Moment) → (isDigits 50 (pictureOf m) ≡ true) × (length (pictureLine m) ≡ 51)
 
--- Each of the hundred pins, found by its number on the line, goes by the table's rule;
+-- Where a pin is found on any fifty digits, by its number: the levels are the first twenty-five of them, and what is driven the other; read as one
+-- number of a hundred places, either has pin 1 in the top place and pin 100 in the lowest.
+abbrev pub TopBitFirst : Type 0
+TopBitFirst =
+    (line : List ℕ) (n : ℕ) → isDigits 50 line ≡ true → 1 ≤ n → n ≤ 100
+    → (highOn line n ≡ bitAt (numberOf (take 25 line)) (100 - n)) × (drivenOn line n ≡ bitAt (numberOf (drop 25 line)) (100 - n))
+
+-- Each of the hundred pins, so found, goes by the table's rule;
 abbrev pub PinByRule : Type 0
 PinByRule =
     (m : Moment) (n : ℕ) → 1 ≤ n → n ≤ 100
@@ -232,6 +242,25 @@ SplitPictured =
 abbrev pub RefusedUnpictured : Type 0
 RefusedUnpictured = (m : Machine) (event : Event) → (refusalIn m event ≡ Refusal.accepted → ⊥) → pictures m event ≡ []
 
+-- ---- Any answer, whether some machine gives it or not, as the library is handed it
+
+-- pHLDA goes by the phase and not by the signals, and a strobe needs a phase with cycles.
+pub record ByPhaseAndKind (phase kind : ℕ) (line : List ℕ) : Type 0 where
+  pub hlda : highOn line 26 ≡ isAmong phase (2 ∷ 3 ∷ 4 ∷ 5 ∷ [])
+  pub dbin : highOn line 78 ≡ (isAmong phase (0 ∷ 1 ∷ 4 ∷ []) && isAmong kind (0x06 ∷ 0x07 ∷ 0x09 ∷ 0x0B ∷ []))
+  pub wr : highOn line 77 ≡ not (isAmong phase (0 ∷ 1 ∷ 4 ∷ []) && isAmong kind (0x08 ∷ 0x0A ∷ 0x0C ∷ []))
+
+-- It has no line behind a refusal, two for a word that counts exactly two cycles, and else one.
+pub record AnswerPictured (event : Event) (answer : Answer) : Type 0 where
+  pub refused : (answer .refusal ≡ 0x00 → ⊥) → picturesOf event answer ≡ []
+  pub split : answer .refusal ≡ 0x00 → isAmong (event .kind) (0x09 ∷ 0x0A ∷ []) ≡ true → answer .cycles ≡ 2
+      → TwoLines (picturesOf event answer) (ByPhaseAndKind (answer .phase) (event .kind)) (ByPhaseAndKind (answer .phase) (event .kind))
+  pub whole : answer .refusal ≡ 0x00 → (isAmong (event .kind) (0x09 ∷ 0x0A ∷ []) ≡ false) ⊎ (answer .cycles ≡ 2 → ⊥)
+      → OneLine (picturesOf event answer) (ByPhaseAndKind (answer .phase) (event .kind))
+
+abbrev pub AnyAnswerPictured : Type 0
+AnyAnswerPictured = (event : Event) (answer : Answer) → AnswerPictured event answer
+
 -- ---- Read again
 
 -- The first line of an accepted event reads back to the phase, the signals and the priority lines of its answer,
@@ -254,9 +283,40 @@ AlikePictured =
     → (answerTo m event .phase ≡ answerTo n other .phase)
     × ((answerTo m event .signals ≡ answerTo n other .signals) × (answerTo m event .lines ≡ answerTo n other .lines))
 
--- Any fifty digits are read, whether some event has such a picture or not, and no column is told.
+-- ---- Any line read
+
+-- a starred line is true where its pin is driven and low, another where it is driven and high
+abbrev pub drivenLow : List ℕ → ℕ → Bool
+drivenLow line n = drivenOn line n && not (highOn line n)
+
+abbrev pub drivenHigh : List ℕ → ℕ → Bool
+drivenHigh line n = drivenOn line n && highOn line n
+
+-- HOLD*, pHLDA, ADSB*, SDSB*, DODSB*, CDSB*, SIXTN* and sXTRQ*, and DMA0* to DMA3*, each with its weight
+abbrev pub signalsByPins : List ℕ → ℕ
+signalsByPins line =
+    cond (drivenLow line 74) 0x01 0 + cond (drivenHigh line 26) 0x02 0 + cond (drivenLow line 22) 0x04 0 + cond (drivenLow line 18) 0x08 0
+    + cond (drivenLow line 23) 0x10 0 + cond (drivenLow line 19) 0x20 0 + cond (drivenLow line 60) 0x40 0 + cond (drivenLow line 58) 0x80 0
+
+abbrev pub priorityByPins : List ℕ → ℕ
+priorityByPins line =
+    cond (drivenLow line 55) 1 0 + cond (drivenLow line 56) 2 0 + cond (drivenLow line 57) 4 0 + cond (drivenLow line 14) 8 0
+
+-- the phase of some signals, those of a word aside, and FF where none has them
+abbrev pub phaseOfSignals : ℕ → ℕ
+phaseOfSignals signals = beside signals ((0x00, 0) ∷ (0x01, 1) ∷ (0x03, 2) ∷ (0x1F, 3) ∷ (0x3F, 4) ∷ (0x1E, 5) ∷ []) 0xFF
+
+-- Any fifty digits are read, whether some event has such a picture or not: signals and priority lines each by its own pin, the phase by its signals.
 abbrev pub FiftyDigitsRead : Type 0
-FiftyDigitsRead = (line : List ℕ) → isDigits 50 line ≡ true → (pictureIn line .refusal ≡ 0x00) × (pictureIn line .column ≡ 0)
+FiftyDigitsRead =
+    (line : List ℕ) → isDigits 50 line ≡ true
+    → pictureIn line ≡ record {
+      refusal = 0x00;
+      phase = phaseOfSignals (signalsByPins line % 0x40);
+      signals = signalsByPins line;
+      lines = priorityByPins line;
+      column = 0;
+    }
 
 -- A line of another length is refused with 0C, whatever its bytes are, and nothing is told of it; one of fifty bytes with a wrong character with
 -- 0D, and the column of the first is told.

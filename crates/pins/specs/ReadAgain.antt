@@ -44,7 +44,7 @@ signalOn (status weight) = 0
 signalOn wordRequest = sXTRQ
 signalOn (control weight) = cond (eqb weight pHLDA) pHLDA 0
 signalOn memoryWrite = 0
-signalOn unmodelled = 0
+signalOn (unmodelled name) = 0
 
 -- what a line weighs in the number that the priority lines show
 abbrev pub priorityOn : BusLine → ℕ
@@ -57,7 +57,7 @@ priorityOn (status weight) = 0
 priorityOn wordRequest = 0
 priorityOn (control weight) = 0
 priorityOn memoryWrite = 0
-priorityOn unmodelled = 0
+priorityOn (unmodelled name) = 0
 
 -- the weights of the lines that are true on these pins, together
 unfoldable pub gathered : (BusLine → ℕ) → List ℕ → List (ℕ × Pin) → ℕ

@@ -46,7 +46,7 @@ shownBy (status weight) m high = high
 shownBy wordRequest m high = high
 shownBy (control weight) m high = high
 shownBy memoryWrite m high = high
-shownBy unmodelled m high = high
+shownBy (unmodelled name) m high = high
 
 abbrev pub fiveShown : ℕ → Moment → List ℕ
 fiveShown k m = fiveFrom k (λ pin. shownBy (pin .line) m (isHigh pin m))

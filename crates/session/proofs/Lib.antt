@@ -6,4 +6,5 @@ pub mod SoundLaws
 pub mod LoopLaws
 pub mod FeedLaws
 pub mod RunPromises
+pub mod PictureCount
 pub mod ChunkPromises

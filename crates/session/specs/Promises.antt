@@ -2,10 +2,11 @@
 use Prim.Native.Nat.{ℕ, _+_, _-_, _*_, _<_, _≤_}
 use mathlib.Core.Path.{_≡_}
 use mathlib.Core.Logic.{_⊎_, _↔_}
-use mathlib.Core.Bool.{true, false, cond}
+use mathlib.Core.Bool.{true, false, cond, _&&_}
 use mathlib.Core.List.{List, [], _∷_, _++_}
 use lib.Dec.{eqb}
 use lib.ListN.{length, getD, take, replicate}
+use Rattle.words.specs.Among.{isAmong}
 use Rattle.bus.specs.Refusal as Refusal
 use Rattle.bus.specs.Sense.{makesSense}
 use Rattle.bus.specs.Setup.{emptyBus}
@@ -21,9 +22,10 @@ use Rattle.text.specs.Promises.{FirstWrong}
 use Rattle.text.specs.Reading.{heldOf}
 use Rattle.text.specs.Chunks.{wholeText}
 use Rattle.pins.specs.Picture.{picturesOf}
-use Rattle.session.specs.World.{World, world, says, turns, mostSaid, setUpBy, freshWorld}
+use Rattle.session.specs.World.{World, world, machineOf, says, turns, mostSaid, setUpBy, freshWorld}
 use Rattle.session.specs.Feeding.{takes, hasRoom, feedRefusal, fedOf, textLeft, outLeft, worldLeft, finishedOf, finishedText, finishedOut, finishedWorld}
 use Rattle.session.specs.Output.{answers, output, ranIn}
+use Rattle.session.specs.declared.state.Stage.{Stage}
 use Rattle.session.specs.declared.state.Stage.the-variants.{Awaiting, Running, Ended}
 use Rattle.session.specs.declared.state.Wanted.{Wanted}
 use Rattle.session.specs.declared.state.Wanted.the-variants.{Answers, Pictures}
@@ -162,6 +164,23 @@ answered (line ∷ lines) = cond (eqb (setupNumber line) Refusal.accepted) (1 + 
 -- As many answer lines as lines; one alone where setup is refused.
 abbrev pub OneAnswerALine : Type 0
 OneAnswerALine = (text : List ℕ) → length (output Answers text) ≡ answered (textLines text) * answerLength
+
+-- the pictures of a line: an accepted event has one, or two if it is a word that took two cycles, and no other line has any
+unfoldable pub picturesBy : Stage → World → List ℕ → ℕ
+picturesBy Awaiting w line = 0
+picturesBy Running w line =
+    cond (isDigits 14 line && eqb (refusalIn (machineOf w) (eventIn line)) 0x00)
+    (cond (isAmong (eventIn line .kind) (0x09 ∷ 0x0A ∷ []) && eqb (answerTo (machineOf w) (eventIn line) .cycles) 2) 2 1) 0
+picturesBy Ended w line = 0
+
+-- of lines one after another
+unfoldable pub picturesAlong : World → List (List ℕ) → ℕ
+picturesAlong w [] = 0
+picturesAlong w (line ∷ lines) = picturesBy (w .session .stage) w line + picturesAlong (turns w line) lines
+
+-- Where pictures are wanted, as many lines of fifty digits and a newline, whatever answers the same text has.
+abbrev pub PicturesCounted : Type 0
+PicturesCounted = (text : List ℕ) → length (output Pictures text) ≡ picturesAlong freshWorld (textLines text) * 51
 
 -- Whatever the lines, the state makes sense and the buffers keep their lengths, so that 01 and 02 are never answered.
 abbrev pub StaysSound : Type 0

@@ -97,7 +97,7 @@ every-append test xs ys ex ey = every-of test (xs ++ ys) (λ i h. go i h (decLt 
         ∙ ap test (getD-append-add xs ys (i - length xs) 0)
         ∙ every-at test ys ey (i - length xs) (omega (arith, h, length-append xs ys))
 
-number-last : (n : ℕ) (digits : List ℕ) (b : ℕ) → numberAfter n (digits ++ b ∷ []) ≡ numberAfter n digits * 16 + valueOf b
+pub number-last : (n : ℕ) (digits : List ℕ) (b : ℕ) → numberAfter n (digits ++ b ∷ []) ≡ numberAfter n digits * 16 + valueOf b
 unfolding numberAfter
 number-last n [] b = refl
 number-last n (d ∷ digits) b = number-last (n * 16 + valueOf d) digits b
