@@ -1,5 +1,5 @@
 -- The pictures of specs/Examples, computed by the definitions.
-use mathlib.Core.Path.{refl}
+use mathlib.Core.Path.{refl, _∙_}
 use Rattle.words.specs.Below.{allBelow, listBelow}
 use Rattle.words.specs.Among.{isAmong, everyListed, beside, whoHas}
 use Rattle.words.specs.First.{leastBelow}
@@ -10,6 +10,7 @@ use Rattle.pins.specs.Pin.{pinTable}
 use Rattle.pins.specs.Moments.{momentsOf}
 use Rattle.pins.specs.Picture.{levelsOf, drivenOf, linesFor}
 use Rattle.pins.specs.ReadAgain.{gathered, pictureIn}
+use Rattle.pins.proofs.TableLaws.{byRows, linesByRows, lines-by-rows}
 use Rattle.pins.specs.Examples.{Sizes, Stars, Standing, Cycling, Telling}
 
 pub sizes : Sizes
@@ -20,22 +21,22 @@ unfolding listBelow beside pinTable
 stars = record { starred = refl }
 
 pub standing : Standing
-unfolding listBelow isAmong beside signalsIn strobeOf controlIn digitsOf pinTable momentsOf levelsOf drivenOf linesFor
-standing = record { idle = refl; arbitration = refl; transferTwo = refl; refused = refl }
+unfolding isAmong beside signalsIn strobeOf controlIn digitsOf pinTable momentsOf byRows linesByRows
+standing = record { idle = lines-by-rows _ ∙ refl; arbitration = lines-by-rows _ ∙ refl; transferTwo = lines-by-rows _ ∙ refl; refused = lines-by-rows _ ∙ refl }
 
 pub cycling : Cycling
-unfolding listBelow isAmong beside signalsIn strobeOf controlIn digitsOf pinTable momentsOf levelsOf drivenOf linesFor
+unfolding isAmong beside signalsIn strobeOf controlIn digitsOf pinTable momentsOf byRows linesByRows
 cycling = record {
-  word = refl;
-  wordAgain = refl;
-  split = refl;
-  splitAgain = refl;
-  read = refl;
-  write = refl;
-  fetch = refl;
-  output = refl;
-  input = refl;
-  owned = refl;
+  word = lines-by-rows _ ∙ refl;
+  wordAgain = lines-by-rows _ ∙ refl;
+  split = lines-by-rows _ ∙ refl;
+  splitAgain = lines-by-rows _ ∙ refl;
+  read = lines-by-rows _ ∙ refl;
+  write = lines-by-rows _ ∙ refl;
+  fetch = lines-by-rows _ ∙ refl;
+  output = lines-by-rows _ ∙ refl;
+  input = lines-by-rows _ ∙ refl;
+  owned = lines-by-rows _ ∙ refl;
 }
 
 pub telling : Telling

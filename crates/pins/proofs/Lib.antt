@@ -1,4 +1,5 @@
 -- Laws of pictures that the functions' proofs cite, and the promises' proofs.
+pub mod TableLaws
 pub mod AsComputed
 pub mod DigitLaws
 pub mod GatherLaws
@@ -7,5 +8,5 @@ pub mod TopBitFirst
 pub mod MomentLaws
 pub mod AnswerLaws
 pub mod EventPictures
-pub mod AnyAnswer
+pub mod HandedAnswer
 pub mod ReadBack

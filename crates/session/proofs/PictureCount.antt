@@ -21,7 +21,7 @@ use Rattle.text.specs.Reading.{answersTo}
 use Rattle.text.proofs.FaultLaws.{all-digits-of}
 use Rattle.pins.specs.Picture.{picturesOf}
 use Rattle.pins.specs.Promises.{OneLine, TwoLines}
-use Rattle.pins.proofs.AnyAnswer.{any-answer-pictured}
+use Rattle.pins.proofs.HandedAnswer.{any-answer-pictured}
 use Rattle.session.specs.World.{World, machineOf, turns, saysBy, freshWorld}
 use Rattle.session.specs.Output.{answers}
 use Rattle.session.specs.Promises.{picturesBy, picturesAlong, PicturesCounted}

@@ -1,4 +1,4 @@
--- The pictures of any event with any answer: how many there are, and what of them goes by phase and kind.
+-- The pictures of any event with any answer that the library may be handed: how many there are, and what of them goes by phase and kind.
 use mathlib.Core.Path.{_≡_, refl, sym, ap, ap₂, _∙_}
 use mathlib.Core.Logic.{_⊎_, ⊎-elim}
 use mathlib.Core.Bool.{Bool, true, false, cond, not, _&&_, _||_, true≢false, false≢true}
