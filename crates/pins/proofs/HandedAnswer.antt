@@ -3,7 +3,7 @@ use mathlib.Core.Path.{_≡_, refl, sym, ap, ap₂, _∙_}
 use mathlib.Core.Logic.{_⊎_, ⊎-elim}
 use mathlib.Core.Bool.{Bool, true, false, cond, not, _&&_, _||_, true≢false, false≢true}
 use mathlib.Core.List.{List, [], _∷_}
-use Prim.Native.Nat.{ℕ, _+_, _<_}
+use Prim.Native.Nat.{ℕ, _+_, _-_, _/_, _%_, _<_}
 use native.Mathlib.Decide.{decLt}
 use native.Mathlib.Omega.{arith}
 use lib.Dec.{eqb}
@@ -13,19 +13,21 @@ use Rattle.words.proofs.TestLaws.{true-or-false, neither-of}
 use Rattle.words.proofs.RowLaws.{rows-pass}
 use Rattle.phases.specs.Phase as Phase
 use Rattle.phases.specs.Kind as Kind
-use Rattle.phases.specs.Signal.{pHLDA, isOn, signalTable, signalsIn}
+use Rattle.phases.specs.Signal.{pHLDA, sXTRQ, isOn, signalTable, signalsIn}
 use Rattle.phases.specs.Control.{pDBIN, pWR, isReading, isWriting, strobeOf, controlIn}
 use Rattle.memory.specs.Halves.{oddHalf}
 use Rattle.judgement.specs.declared.event.Event.{Event}
 use Rattle.events.specs.declared.answers.Answer.{Answer}
 use Rattle.pins.specs.Pin.{pinTable}
-use Rattle.pins.specs.Moments.{hasStrobe, idleMoment, byteMoment, wordMoment, evenMoment, oddMoment, momentsOf}
+use Rattle.pins.specs.Moments.{idleMoment, byteMoment, wordMoment, evenMoment, oddMoment}
+use Rattle.pins.specs.Moments.{hasStrobe, oddOfPair, withoutRequest, momentsOf}
 use Rattle.pins.specs.Picture.{pictureOf, picturesOf, linesFor}
-use Rattle.pins.specs.Promises.{OneLine, TwoLines, ByPhaseAndKind, AnswerPictured, AnyAnswerPictured}
+use Rattle.pins.specs.ReadAgain.{highOn}
+use Rattle.pins.specs.Promises.{addressPins, numberOn, OneLine, TwoLines, ByPhaseAndKind, AnswerPictured, AnyAnswerPictured}
 use Rattle.pins.specs.declared.moments.Moment.{Moment}
 use Rattle.pins.proofs.DigitLaws.{no-picture}
 use Rattle.pins.proofs.PinLaws.{high-is}
-use Rattle.pins.proofs.MomentLaws.{agree, agreed}
+use Rattle.pins.proofs.MomentLaws.{agree, agreed, address-on}
 use Rattle.pins.proofs.AnswerLaws.{one-way, word-cycles}
 use Rattle.pins.proofs.EventPictures.{one-picture, two-pictures}
 
@@ -150,13 +152,40 @@ module _ (event : Event) (answer : Answer) (ok : answer .refusal ≡ 0) where
   unfolding isAmong
   word-strobed word = ⊎-elim (λ e. rw e refl) (λ e. rw e refl) (word-cycles (event .kind) word)
 
-  two-lines-shown : isAmong (event .kind) (0x09 ∷ 0x0A ∷ []) ≡ true → answer .cycles ≡ 2 → TwoLines (picturesOf event answer) Shows Shows
+  word-cyclic : Kind.isWord (event .kind) ≡ true → (isWriting (event .kind) || isReading (event .kind)) ≡ true
+  unfolding isAmong
+  word-cyclic word = ⊎-elim (λ e. rw e refl) (λ e. rw e refl) (word-cycles (event .kind) word)
+
+  -- of the pair of an address
+  abbrev AtEven : List ℕ → Type 0
+  AtEven line = Shows line × (event .address < 0x1000000 → numberOn line addressPins ≡ event .address)
+
+  abbrev AtOdd : List ℕ → Type 0
+  AtOdd line =
+      Shows line × ((event .address < 0x1000000 → numberOn line addressPins ≡ event .address - event .address % 2 + 1) × (highOn line 58 ≡ true))
+
+  odd-shown : Kind.isWord (event .kind) ≡ true → AtOdd (pictureOf (oddMoment event answer))
+  unfolding beside pinTable
+  odd-shown word =
+      let x = oddMoment event answer in
+      let pair : oddOfPair (event .address) ≡ event .address - event .address % 2 + 1 = omega arith in
+      let unasked : isOn sXTRQ (withoutRequest (answer .signals)) ≡ false =
+      ne-eqb (withoutRequest (answer .signals) / sXTRQ % 2) 1 (λ e. omega (arith, e)) in (
+        shows x refl,
+        (
+          (λ small. address-on x (word-cyclic word) (omega (arith, small)) ∙ pair),
+          high-is x 58 (omega arith) (omega arith) ∙ ap₂ (λ (on asked : Bool). on && not asked) (word-cyclic word) unasked,
+        ),
+      )
+
+  two-lines-shown : isAmong (event .kind) (0x09 ∷ 0x0A ∷ []) ≡ true → answer .cycles ≡ 2 → TwoLines (picturesOf event answer) AtEven AtOdd
   unfolding momentsOf
   two-lines-shown word two =
       let is = words true word in
-      two-pictures (picturesOf event answer) (evenMoment event answer) (oddMoment event answer) Shows Shows
+      let even = evenMoment event answer in
+      two-pictures (picturesOf event answer) even (oddMoment event answer) AtEven AtOdd
       (rw (eq-eqb (answer .refusal) 0 ok, word-strobed is, is, eq-eqb (answer .cycles) 2 two) refl)
-      (shows (evenMoment event answer) refl) (shows (oddMoment event answer) refl)
+      (shows even refl, address-on even (word-cyclic is)) (odd-shown is)
 
   one-line-shown : (isAmong (event .kind) (0x09 ∷ 0x0A ∷ []) ≡ false) ⊎ (answer .cycles ≡ 2 → ⊥) → OneLine (picturesOf event answer) Shows
   unfolding momentsOf

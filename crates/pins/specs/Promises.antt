@@ -250,11 +250,16 @@ pub record ByPhaseAndKind (phase kind : ℕ) (line : List ℕ) : Type 0 where
   pub dbin : highOn line 78 ≡ (isAmong phase (0 ∷ 1 ∷ 4 ∷ []) && isAmong kind (0x06 ∷ 0x07 ∷ 0x09 ∷ 0x0B ∷ []))
   pub wr : highOn line 77 ≡ not (isAmong phase (0 ∷ 1 ∷ 4 ∷ []) && isAmong kind (0x08 ∷ 0x0A ∷ 0x0C ∷ []))
 
--- It has no line behind a refusal, two for a word that counts exactly two cycles, and else one.
+-- It has no line behind a refusal, two for a word that counts exactly two cycles, and else one. Of the two, the first is at the event's address and
+-- the second at the odd one of the pair, with sXTRQ false.
 pub record AnswerPictured (event : Event) (answer : Answer) : Type 0 where
   pub refused : (answer .refusal ≡ 0x00 → ⊥) → picturesOf event answer ≡ []
   pub split : answer .refusal ≡ 0x00 → isAmong (event .kind) (0x09 ∷ 0x0A ∷ []) ≡ true → answer .cycles ≡ 2
-      → TwoLines (picturesOf event answer) (ByPhaseAndKind (answer .phase) (event .kind)) (ByPhaseAndKind (answer .phase) (event .kind))
+      → TwoLines (picturesOf event answer)
+      (λ line. ByPhaseAndKind (answer .phase) (event .kind) line × (event .address < 0x1000000 → numberOn line addressPins ≡ event .address))
+      (λ line.
+      ByPhaseAndKind (answer .phase) (event .kind) line
+      × ((event .address < 0x1000000 → numberOn line addressPins ≡ event .address - event .address % 2 + 1) × (highOn line 58 ≡ true)))
   pub whole : answer .refusal ≡ 0x00 → (isAmong (event .kind) (0x09 ∷ 0x0A ∷ []) ≡ false) ⊎ (answer .cycles ≡ 2 → ⊥)
       → OneLine (picturesOf event answer) (ByPhaseAndKind (answer .phase) (event .kind))
 
