@@ -3,10 +3,11 @@ use mathlib.Core.Path.{_≡_, refl, sym, ap, _∙_}
 use mathlib.Core.Logic.{_⊎_, inl, inr, ⊎-elim}
 use mathlib.Core.Bool.{Bool, true, false, not, _&&_, _||_}
 use Prim.Native.Nat.{ℕ, _+_, _%_, _<_, _^_}
+use native.Mathlib.Decide.{decLt}
 use native.Mathlib.Omega.{arith}
 use lib.Dec.{eqb, leb, ltb}
 use lib.ListN.{length}
-use borrow.Author.Tests.{eqb-true, ltb-false, not-true, not-false}
+use borrow.Author.Tests.{eqb-true, ne-eqb, ltb-false, not-true, not-false}
 use Rattle.words.specs.Below.{allBelow}
 use Rattle.words.specs.Among.{isAmong, beside}
 use Rattle.words.proofs.TestLaws.{true-or-false, both-of, neither-of, either-of, then-of, else-of}
@@ -79,10 +80,18 @@ byte-cycles kind h strobe narrow =
     (either-of (eqb kind 0x07) (eqb kind 0x08 || (eqb kind 0x0B || eqb kind 0x0C)) more)))
     (either-of (eqb kind 0x06) (eqb kind 0x07 || (eqb kind 0x08 || (eqb kind 0x0B || eqb kind 0x0C))) some)
 
--- a cycle either reads or writes
-pub one-way : (kind : ℕ) → kind < 16 → (isReading kind && isWriting kind) ≡ false
+-- no kind reads and writes
+pub one-way : (kind : ℕ) → (isReading kind && isWriting kind) ≡ false
 unfolding allBelow isAmong
-one-way kind h = not-true (isReading kind && isWriting kind) (all-at (λ k. not (isReading k && isWriting k)) 16 refl kind h)
+one-way kind = go (decLt kind 16)
+  where
+    go : Dec (kind < 16) → (isReading kind && isWriting kind) ≡ false
+    go (yes known) = not-true (isReading kind && isWriting kind) (all-at (λ k. not (isReading k && isWriting k)) 16 refl kind known)
+    go (no beyond) =
+        rw (apart Kind.byteRead (omega arith), apart Kind.opcodeFetch (omega arith), apart Kind.wordRead (omega arith), apart Kind.input (omega arith)) refl
+      where
+        apart : (k : ℕ) → k < 16 → eqb kind k ≡ false
+        apart k h = ne-eqb kind k (λ e. beyond (omega (arith, e, h)))
 
 -- the signals of a split word without sXTRQ are its phase's
 without : (phase : ℕ) → phase < 6 → withoutRequest (signalsIn phase + 0x80) ≡ signalsIn phase + 0

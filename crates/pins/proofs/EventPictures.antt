@@ -153,7 +153,7 @@ either-way false true d e = e
 either-way false false d e = e
 
 -- a read doesn't write
-not-both : (b c : Bool) → (b && c) ≡ false → b ≡ true → c ≡ false
+pub not-both : (b c : Bool) → (b && c) ≡ false → b ≡ true → c ≡ false
 not-both true c e is = e
 not-both false c e is = absurd (false≢true is)
 
@@ -163,15 +163,15 @@ other-way true false e is = absurd (false≢true is)
 other-way false c e is = refl
 
 -- a byte cycle's moment carries its byte on its pins
-module _ (event : Event) (answer : Answer) (signals address byte : ℕ) (known : event .kind < 16) (small : byte < 2 ^ 8) where
-  on-its-pins : OnItsPins (event .kind) byte (pictureOf (byteMoment event answer signals address byte))
+module _ (event : Event) (answer : Answer) (signals address byte : ℕ) (small : byte < 2 ^ 8) where
+  pub on-its-pins : OnItsPins (event .kind) byte (pictureOf (byteMoment event answer signals address byte))
   on-its-pins = (
     λ reads. on-di (byteMoment event answer signals address byte) (not-both (isReading (event .kind)) (isWriting (event .kind)) apart reads) reads small,
     λ writes. on-do (byteMoment event answer signals address byte) writes (other-way (isReading (event .kind)) (isWriting (event .kind)) apart writes) small,
   )
     where
       apart : (isReading (event .kind) && isWriting (event .kind)) ≡ false
-      apart = one-way (event .kind) known
+      apart = one-way (event .kind)
 
 module _ (m : Machine) (event : Event) (ok : refusalIn m event ≡ 0) where
   pub on-cycle : isCycle (event .kind) ≡ true → (isWriting (event .kind) || isReading (event .kind)) ≡ true
@@ -189,7 +189,7 @@ module _ (m : Machine) (event : Event) (ok : refusalIn m event ≡ 0) where
         bus-shown x (answerTo m event .phase) (event .kind) w fits (λ off. absurd (true≢false (sym on ∙ off))),
         (
           in-cycle x (answerTo m event .phase) (event .kind) w fits (strobe m event ok true cycle) on reach,
-          on-its-pins event (answerTo m event) signals address byte (kind-known m event ok) small,
+          on-its-pins event (answerTo m event) signals address byte small,
         ),
       )
 

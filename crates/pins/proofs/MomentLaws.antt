@@ -112,7 +112,7 @@ module _ (x : Moment) where
       ap f (driven-is x (getD pins i 0) (leb-true 1 (getD pins i 0) (both .0)) (leb-true (getD pins i 0) 100 (both .1))))
 
   -- a pin by its number
-  pin : (n : ℕ) → (leb 1 n && leb n 100) ≡ true → highOn (pictureOf x) n ≡ isHigh (pinAt n) x
+  pub pin : (n : ℕ) → (leb 1 n && leb n 100) ≡ true → highOn (pictureOf x) n ≡ isHigh (pinAt n) x
   pin n within = let both = both-of (leb 1 n) (leb n 100) within in high-is x n (leb-true 1 n (both .0)) (leb-true n 100 (both .1))
 
   -- ---- Numbers on pins
@@ -236,7 +236,7 @@ module _ (x : Moment) where
       + 2 * (cond (not (bitAt l 1)) 1 0 + 2 * (cond (not (bitAt l 2)) 1 0 + 2 * (cond (not (bitAt l 3)) 1 0 + 2 * 0))))
       (λ l. 15 - l) 16 refl lines
 
-  priority-on : x .lines < 16 → numberOn (pictureOf x) priorityPins ≡ 15 - x .lines
+  pub priority-on : x .lines < 16 → numberOn (pictureOf x) priorityPins ≡ 15 - x .lines
   unfolding beside pinTable
   priority-on small = rw (pin 55 refl, pin 56 refl, pin 57 refl, pin 14 refl) (priority-low (x .lines) small)
 

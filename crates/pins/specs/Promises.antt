@@ -1,8 +1,8 @@
 -- What is promised of pictures (02, CR 1). The proof of each stands in proofs/ under its name in lower case, with hyphens.
-use Prim.Native.Nat.{ℕ, _+_, _-_, _*_, _%_, _<_, _≤_}
+use Prim.Native.Nat.{ℕ, _+_, _-_, _*_, _/_, _%_, _<_, _≤_}
 use mathlib.Core.Path.{_≡_}
 use mathlib.Core.Logic.{_⊎_}
-use mathlib.Core.Bool.{Bool, true, false, cond, not, _&&_}
+use mathlib.Core.Bool.{Bool, true, false, cond, not, _&&_, _||_}
 use mathlib.Core.List.{List, [], _∷_, _++_}
 use lib.ListN.{length, getD, take, drop}
 use Rattle.words.specs.Bits.{bitAt}
@@ -244,24 +244,51 @@ RefusedUnpictured = (m : Machine) (event : Event) → (refusalIn m event ≡ Ref
 
 -- ---- Any answer, whether some machine gives it or not, as the library is handed it
 
--- pHLDA goes by the phase and not by the signals, and a strobe needs a phase with cycles.
-pub record ByPhaseAndKind (phase kind : ℕ) (line : List ℕ) : Type 0 where
-  pub hlda : highOn line 26 ≡ isAmong phase (2 ∷ 3 ∷ 4 ∷ 5 ∷ [])
-  pub dbin : highOn line 78 ≡ (isAmong phase (0 ∷ 1 ∷ 4 ∷ []) && isAmong kind (0x06 ∷ 0x07 ∷ 0x09 ∷ 0x0B ∷ []))
-  pub wr : highOn line 77 ≡ not (isAmong phase (0 ∷ 1 ∷ 4 ∷ []) && isAmong kind (0x08 ∷ 0x0A ∷ 0x0C ∷ []))
+abbrev pub hasCycleKind : Event → Bool
+hasCycleKind event = isAmong (event .kind) (0x08 ∷ 0x0A ∷ 0x0C ∷ []) || isAmong (event .kind) (0x06 ∷ 0x07 ∷ 0x09 ∷ 0x0B ∷ [])
 
--- It has no line behind a refusal, two for a word that counts exactly two cycles, and else one. Of the two, the first is at the event's address and
--- the second at the odd one of the pair, with sXTRQ false.
+-- pHLDA goes by the phase and not by the signals, and a strobe needs a phase with cycles. All else goes by these signals, the answer's status and its
+-- priority lines; status and sXTRQ are high in a cycle alone.
+pub record ByAnswer (event : Event) (answer : Answer) (signals : ℕ) (line : List ℕ) : Type 0 where
+  pub hlda : highOn line 26 ≡ isAmong (answer .phase) (2 ∷ 3 ∷ 4 ∷ 5 ∷ [])
+  pub dbin : highOn line 78 ≡ (isAmong (answer .phase) (0 ∷ 1 ∷ 4 ∷ []) && isAmong (event .kind) (0x06 ∷ 0x07 ∷ 0x09 ∷ 0x0B ∷ []))
+  pub wr : highOn line 77 ≡ not (isAmong (answer .phase) (0 ∷ 1 ∷ 4 ∷ []) && isAmong (event .kind) (0x08 ∷ 0x0A ∷ 0x0C ∷ []))
+  pub hold : highOn line 74 ≡ not (isOn 0x01 signals)
+  pub adsb : highOn line 22 ≡ not (isOn 0x04 signals)
+  pub sdsb : highOn line 18 ≡ not (isOn 0x08 signals)
+  pub dodsb : highOn line 23 ≡ not (isOn 0x10 signals)
+  pub cdsb : highOn line 19 ≡ not (isOn 0x20 signals)
+  pub sixtn : highOn line 60 ≡ not (isOn 0x40 signals)
+  pub xtrq : highOn line 58 ≡ (hasCycleKind event && not (isOn 0x80 signals))
+  pub memr : highOn line 47 ≡ (hasCycleKind event && isOn 0x01 (answer .status))
+  pub m1 : highOn line 44 ≡ (hasCycleKind event && isOn 0x02 (answer .status))
+  pub inp : highOn line 46 ≡ (hasCycleKind event && isOn 0x04 (answer .status))
+  pub outp : highOn line 45 ≡ (hasCycleKind event && isOn 0x08 (answer .status))
+  pub wo : highOn line 97 ≡ (hasCycleKind event && not (isOn 0x10 (answer .status)))
+  pub priority : answer .lines < 16 → numberOn line priorityPins ≡ 15 - answer .lines
+
+-- An address and a byte of a cycle.
+pub record AtAddress (event : Event) (address byte : ℕ) (line : List ℕ) : Type 0 where
+  pub at : address < 0x1000000 → numberOn line addressPins ≡ address
+  pub carries : byte < 0x100 → OnItsPins (event .kind) byte line
+
+-- One line: a word has its halves on both groups, and of a byte's datum the low half counts.
+pub record InOneLine (event : Event) (answer : Answer) (line : List ℕ) : Type 0 where
+  pub at : hasCycleKind event ≡ true → event .address < 0x1000000 → numberOn line addressPins ≡ event .address
+  pub word : isAmong (event .kind) (0x09 ∷ 0x0A ∷ []) ≡ true → answer .datum < 0x10000
+      → OnBoth (answer .datum / 0x100) (answer .datum % 0x100) line
+  pub byte : isAmong (event .kind) (0x09 ∷ 0x0A ∷ []) ≡ false → OnItsPins (event .kind) (answer .datum % 0x100) line
+
+-- It has no line behind a refusal, two for a word that counts exactly two cycles, and else one. Of the two, the first has the high half at the
+-- event's address, and the second the low half at the odd address of the pair, with sXTRQ false.
 pub record AnswerPictured (event : Event) (answer : Answer) : Type 0 where
   pub refused : (answer .refusal ≡ 0x00 → ⊥) → picturesOf event answer ≡ []
   pub split : answer .refusal ≡ 0x00 → isAmong (event .kind) (0x09 ∷ 0x0A ∷ []) ≡ true → answer .cycles ≡ 2
       → TwoLines (picturesOf event answer)
-      (λ line. ByPhaseAndKind (answer .phase) (event .kind) line × (event .address < 0x1000000 → numberOn line addressPins ≡ event .address))
-      (λ line.
-      ByPhaseAndKind (answer .phase) (event .kind) line
-      × ((event .address < 0x1000000 → numberOn line addressPins ≡ event .address - event .address % 2 + 1) × (highOn line 58 ≡ true)))
+      (λ line. ByAnswer event answer (answer .signals) line × AtAddress event (event .address) (answer .datum / 0x100) line)
+      (λ line. ByAnswer event answer (answer .signals % 0x80) line × AtAddress event (event .address - event .address % 2 + 1) (answer .datum % 0x100) line)
   pub whole : answer .refusal ≡ 0x00 → (isAmong (event .kind) (0x09 ∷ 0x0A ∷ []) ≡ false) ⊎ (answer .cycles ≡ 2 → ⊥)
-      → OneLine (picturesOf event answer) (ByPhaseAndKind (answer .phase) (event .kind))
+      → OneLine (picturesOf event answer) (λ line. ByAnswer event answer (answer .signals) line × InOneLine event answer line)
 
 abbrev pub AnyAnswerPictured : Type 0
 AnyAnswerPictured = (event : Event) (answer : Answer) → AnswerPictured event answer
