@@ -89,7 +89,7 @@ extern "C" {
 
 /* ---- The bytes of what is read from a picture. Behind a refusal all are 0, but the column behind S100_REFUSED_WRONG_CHARACTER. */
 
-#define S100_SEEN_PHASE_AT 0   /* 1 byte: the phase that has these signals, or S100_NO_PHASE */
+#define S100_SEEN_PHASE_AT 0   /* 1 byte: the phase that has these signals, SIXTN and sXTRQ aside, or S100_NO_PHASE */
 #define S100_SEEN_SIGNALS_AT 1 /* 1 byte, weighed as in an answer */
 #define S100_SEEN_LINES_AT 2   /* 1 byte: what the priority lines show */
 #define S100_SEEN_COLUMN_AT 3  /* 1 byte: behind S100_REFUSED_WRONG_CHARACTER the column of the first such byte, counted from 1, and else 0 */

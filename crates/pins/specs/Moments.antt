@@ -65,7 +65,7 @@ oddMoment event answer = byteMoment event answer (withoutRequest (answer .signal
 abbrev pub isSplit : Event → Answer → Bool
 isSplit event answer = Kind.isWord (event .kind) && eqb (answer .cycles) 2
 
--- a byte's datum is below 100h, and its lower half all of it
+-- a byte's datum is below 100h, so its lower half is all of it
 abbrev pub cycleMoments : Event → Answer → List Moment
 cycleMoments event answer =
     cond (isSplit event answer) (evenMoment event answer ∷ oddMoment event answer ∷ [])

@@ -1,4 +1,4 @@
--- The digits of a picture, a bit for each of the hundred pins, pin 1 highest: how high they are, and then whether they are driven (02, CR 1).
+-- The digits of a picture, a bit for each of the hundred pins, pin 1 in the top bit: whether each is high, and then whether each is driven (02, CR 1).
 use Prim.Native.Nat.{ℕ, _+_, _*_}
 use mathlib.Core.Bool.{Bool, cond}
 use mathlib.Core.List.{List, [], _∷_, _++_}

@@ -32,8 +32,8 @@ use Rattle.pins.specs.declared.moments.Moment.{Moment}
 abbrev pub FiftyDigits : Type 0
 FiftyDigits = (m : Moment) → (isDigits 50 (pictureOf m) ≡ true) × (length (pictureLine m) ≡ 51)
 
--- Where a pin is found on any fifty digits, by its number: the levels are the first twenty-five of them, and what is driven the other; read as one
--- number of a hundred places, either has pin 1 in the top place and pin 100 in the lowest.
+-- Where a pin is found on any fifty digits, by its number: the first twenty-five are levels, and the other twenty-five say what is driven; read as one
+-- number of a hundred places, either half has pin 1 in the top place and pin 100 in the lowest.
 abbrev pub TopBitFirst : Type 0
 TopBitFirst =
     (line : List ℕ) (n : ℕ) → isDigits 50 line ≡ true → 1 ≤ n → n ≤ 100
@@ -225,7 +225,7 @@ WordPictured =
     × OnBoth (getD (after m event .memory) (event .address) 0) (getD (after m event .memory) (event .address + 1) 0) line))
 
 -- A word over an eight-bit page has two: first its even address, with sXTRQ true, and then its odd one, with sXTRQ false, each byte as in a byte
--- cycle, SIXTN false in both. They are the same two bytes.
+-- cycle, SIXTN false in both. The bytes are those that a word in one cycle has on its two groups of pins.
 abbrev pub SplitPictured : Type 0
 SplitPictured =
     (m : Machine) (event : Event) → Bytes m → refusalIn m event ≡ Refusal.accepted → Kind.isWord (event .kind) ≡ true

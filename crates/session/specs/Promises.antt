@@ -130,7 +130,7 @@ pub record SetupJudged (bus : Bus) (memory ports line : List ℕ) (lines : List 
 abbrev pub SetupInOrder : Type 0
 SetupInOrder = (bus : Bus) (memory ports line : List ℕ) (lines : List (List ℕ)) → SetupJudged bus memory ports line lines
 
--- A refused setup line has one answer, and nothing after it has one; it leaves an empty chassis, and memory and ports alone.
+-- What is said to a refused setup line is all that is said; it leaves an empty chassis, and memory and ports alone.
 abbrev pub RefusedSetupEnds : Type 0
 RefusedSetupEnds =
     (wanted : Wanted) (bus : Bus) (memory ports line : List ℕ) (lines : List (List ℕ)) → (setupNumber line ≡ Refusal.accepted → ⊥)
@@ -178,7 +178,7 @@ unfoldable pub picturesAlong : World → List (List ℕ) → ℕ
 picturesAlong w [] = 0
 picturesAlong w (line ∷ lines) = picturesBy (w .session .stage) w line + picturesAlong (turns w line) lines
 
--- Where pictures are wanted, as many lines of fifty digits and a newline, whatever answers the same text has.
+-- Where pictures are wanted, 51 bytes for each picture so counted, and no others; what they are, `LinePictured` says line by line.
 abbrev pub PicturesCounted : Type 0
 PicturesCounted = (text : List ℕ) → length (output Pictures text) ≡ picturesAlong freshWorld (textLines text) * 51
 
