@@ -22,7 +22,12 @@ stars = record { starred = refl }
 
 pub standing : Standing
 unfolding isAmong beside signalsIn strobeOf controlIn digitsOf pinTable momentsOf byRows linesByRows
-standing = record { idle = lines-by-rows _ ∙ refl; arbitration = lines-by-rows _ ∙ refl; transferTwo = lines-by-rows _ ∙ refl; refused = lines-by-rows _ ∙ refl }
+standing = record {
+  idle = lines-by-rows _ ∙ refl;
+  arbitration = lines-by-rows _ ∙ refl;
+  transferTwo = lines-by-rows _ ∙ refl;
+  refused = lines-by-rows _ ∙ refl;
+}
 
 pub cycling : Cycling
 unfolding isAmong beside signalsIn strobeOf controlIn digitsOf pinTable momentsOf byRows linesByRows

@@ -86,7 +86,8 @@ with-cycles phase = listed (eqb phase 0) (eqb phase 1) (eqb phase 4)
 
 -- ---- A moment of an answer
 
-module _ (event : Event) (answer : Answer) (signals address out into : ℕ) (drivesOut drivesIn : Bool) (cyclic : (drivesOut || drivesIn) ≡ hasCycleKind event) where
+module _ (event : Event) (answer : Answer) (signals address out into : ℕ) (drivesOut drivesIn : Bool)
+    (cyclic : (drivesOut || drivesIn) ≡ hasCycleKind event) where
   by-answer : ByAnswer event answer signals (pictureOf (momentOf event answer signals address out into drivesOut drivesIn))
   unfolding beside pinTable strobeOf controlIn
   by-answer = record {
@@ -157,7 +158,8 @@ module _ (event : Event) (answer : Answer) (ok : answer .refusal ≡ 0) where
   abbrev Half : ℕ → ℕ → ℕ → List ℕ → Type 0
   Half signals address byte line = ByAnswer event answer signals line × AtAddress event address byte line
 
-  half-shown : (signals address byte : ℕ) → Kind.isWord (event .kind) ≡ true → Half signals address byte (pictureOf (byteMoment event answer signals address byte))
+  half-shown : (signals address byte : ℕ) → Kind.isWord (event .kind) ≡ true
+      → Half signals address byte (pictureOf (byteMoment event answer signals address byte))
   half-shown signals address byte word = (
     by-answer event answer signals address byte byte (isWriting (event .kind)) (isReading (event .kind)) refl,
     record { at = address-on (byteMoment event answer signals address byte) (word-cyclic word); carries = on-its-pins event answer signals address byte },
