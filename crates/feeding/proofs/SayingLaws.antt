@@ -1,8 +1,8 @@
 -- What is put for a line, where there is room for the most that is wanted.
-use mathlib.Core.Path.{_≡_, sym, subst, _∙_}
+use mathlib.Core.Path.{_≡_, refl, sym, subst, _∙_}
 use mathlib.Core.List.{List}
 use Prim.Native.Nat.{ℕ, _≤_}
-use borrow.Author.Tests.{le-leb}
+use borrow.Author.Tests.{eq-eqb, ne-eqb, le-leb}
 use lib.ListN.{length}
 use lib.Seq.{sets}
 use Rattle.judgement.specs.declared.event.Event.{Event}
@@ -10,8 +10,21 @@ use Rattle.events.specs.declared.answers.Answer.{Answer}
 use Rattle.text.specs.AnswerLine.{answerLine, answerLength, bytesPut, printed}
 use Rattle.text.proofs.ReadingLaws.{answer-long, printed-fits, bytes-fit}
 use Rattle.pins.specs.Picture.{mostPictured, picturesOf, bytesPictured, pictured}
-use Rattle.session.specs.World.{mostSaid}
+use Rattle.session.specs.World.{wantsAnswers, wantedBy, mostSaid}
 use Rattle.session.specs.declared.state.Wanted.{Wanted}
+use Rattle.session.specs.declared.state.Wanted.the-variants.{Answers, Pictures}
+
+-- ---- What a number asks for
+
+pub wants-answers : (number : ℕ) → number ≡ wantsAnswers → wantedBy number ≡ Answers
+unfolding wantedBy
+wants-answers number is = rw (eq-eqb number wantsAnswers is) refl
+
+pub wants-pictures : (number : ℕ) → (number ≡ wantsAnswers → ⊥) → wantedBy number ≡ Pictures
+unfolding wantedBy
+wants-pictures number other = rw (ne-eqb number wantsAnswers other) refl
+
+-- ---- What is put
 
 -- these bytes were counted, and stand at the front of the place
 abbrev pub PutAs : List ℕ → List ℕ → ℕ → List ℕ → Type 0

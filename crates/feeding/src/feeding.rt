@@ -6,6 +6,7 @@ ghost use lib.ListN.{length, take};
 ghost use lib.Seq.{sets};
 ghost use Rattle.bus.specs.Sense.{makesSense};
 ghost use Rattle.judgement.specs.Refusals.{hasWrongBuffers};
+ghost use Rattle.session.specs.World.{wantedBy};
 ghost use Rattle.session.specs.Feeding.{worldOf, takes, feedRefusal, refusedFed, takenFed, heldIn};
 ghost use Rattle.session.specs.Feeding.{fedOf, worldLeft, outLeft, textLeft};
 ghost use Rattle.session.specs.Feeding.{endedText, endedAt, finishedOf, finishedText, finishedOut, finishedWorld};
@@ -16,13 +17,12 @@ use bus::numbers::*;
 use sense::makes_sense;
 use session::Fed;
 use session::Session;
-use session::Wanted;
 use text::NEWLINE;
 
 // Takes the lines that have ended in the filled part of the text, as many as `out` has room for, and brings the rest to the front.
 // What is read next goes behind it.
 pub fn feed(
-    wanted: Wanted,
+    wanted: u8,
     session: Session,
     text: &mut [u8],
     filled: usize,
@@ -30,15 +30,15 @@ pub fn feed(
     memory: &mut [u8],
     ports: &mut [u8],
 ) -> Fed
-    ensures fed { λ r. ⌜ r ≡ fedOf wanted (worldOf session (now (memory .entry)) (now (ports .entry))) (now (text .entry)) filled (now (out .entry)) ⌝ }
+    ensures fed { λ r. ⌜ r ≡ fedOf (wantedBy wanted) (worldOf session (now (memory .entry)) (now (ports .entry))) (now (text .entry)) filled (now (out .entry)) ⌝ }
     ensures text_left { λ _. ⌜ now (text .exit) ≡
-        textLeft wanted (worldOf session (now (memory .entry)) (now (ports .entry))) (now (text .entry)) filled (now (out .entry)) ⌝ }
+        textLeft (wantedBy wanted) (worldOf session (now (memory .entry)) (now (ports .entry))) (now (text .entry)) filled (now (out .entry)) ⌝ }
     ensures out_left { λ _. ⌜ now (out .exit) ≡
-        outLeft wanted (worldOf session (now (memory .entry)) (now (ports .entry))) (now (text .entry)) filled (now (out .entry)) ⌝ }
+        outLeft (wantedBy wanted) (worldOf session (now (memory .entry)) (now (ports .entry))) (now (text .entry)) filled (now (out .entry)) ⌝ }
     ensures memory_left { λ _. ⌜ now (memory .exit) ≡
-        worldLeft wanted (worldOf session (now (memory .entry)) (now (ports .entry))) (now (text .entry)) filled (now (out .entry)) .memory ⌝ }
+        worldLeft (wantedBy wanted) (worldOf session (now (memory .entry)) (now (ports .entry))) (now (text .entry)) filled (now (out .entry)) .memory ⌝ }
     ensures ports_left { λ _. ⌜ now (ports .exit) ≡
-        worldLeft wanted (worldOf session (now (memory .entry)) (now (ports .entry))) (now (text .entry)) filled (now (out .entry)) .ports ⌝ }
+        worldLeft (wantedBy wanted) (worldOf session (now (memory .entry)) (now (ports .entry))) (now (text .entry)) filled (now (out .entry)) .ports ⌝ }
 {
     let refusal = feed_refusal(session.bus, text, filled, memory, ports);
     if refusal == ACCEPTED {
@@ -61,7 +61,7 @@ fn refused_fed(refusal: u8, session: Session, filled: usize) -> Fed
 }
 
 fn take_in(
-    wanted: Wanted,
+    wanted: u8,
     session: Session,
     text: &mut [u8],
     filled: usize,
@@ -73,18 +73,18 @@ fn take_in(
     requires { ⌜ hasWrongBuffers (now memory) (now ports) ≡ false ⌝ }
     requires { ⌜ makesSense (session .bus) ≡ true ⌝ }
     ensures fed { λ r. ⌜ r ≡
-        takenFed (takes wanted (length (now (out .entry))) (worldOf session (now (memory .entry)) (now (ports .entry))) (take filled (now (text .entry)))) ⌝ }
+        takenFed (takes (wantedBy wanted) (length (now (out .entry))) (worldOf session (now (memory .entry)) (now (ports .entry))) (take filled (now (text .entry)))) ⌝ }
     ensures text_left { λ _. ⌜ now (text .exit) ≡
-        heldIn (now (text .entry)) (takes wanted (length (now (out .entry)))
+        heldIn (now (text .entry)) (takes (wantedBy wanted) (length (now (out .entry)))
         (worldOf session (now (memory .entry)) (now (ports .entry))) (take filled (now (text .entry))) .rest) ⌝ }
     ensures out_left { λ _. ⌜ now (out .exit) ≡
-        sets (now (out .entry)) 0 (takes wanted (length (now (out .entry)))
+        sets (now (out .entry)) 0 (takes (wantedBy wanted) (length (now (out .entry)))
         (worldOf session (now (memory .entry)) (now (ports .entry))) (take filled (now (text .entry))) .said) ⌝ }
     ensures memory_left { λ _. ⌜ now (memory .exit) ≡
-        takes wanted (length (now (out .entry))) (worldOf session (now (memory .entry)) (now (ports .entry)))
+        takes (wantedBy wanted) (length (now (out .entry))) (worldOf session (now (memory .entry)) (now (ports .entry)))
         (take filled (now (text .entry))) .state .memory ⌝ }
     ensures ports_left { λ _. ⌜ now (ports .exit) ≡
-        takes wanted (length (now (out .entry))) (worldOf session (now (memory .entry)) (now (ports .entry)))
+        takes (wantedBy wanted) (length (now (out .entry))) (worldOf session (now (memory .entry)) (now (ports .entry)))
         (take filled (now (text .entry))) .state .ports ⌝ }
 {
     let taken = take_lines(wanted, session, &text[..filled], out, memory, ports);
@@ -114,7 +114,7 @@ fn feed_refusal(bus: Bus, text: &[u8], filled: usize, memory: &[u8], ports: &[u8
 
 // The end of the input ends the line that is held, as a newline would, unless one ends it already.
 pub fn finish(
-    wanted: Wanted,
+    wanted: u8,
     session: Session,
     text: &mut [u8],
     held: usize,
@@ -122,15 +122,15 @@ pub fn finish(
     memory: &mut [u8],
     ports: &mut [u8],
 ) -> Fed
-    ensures fed { λ r. ⌜ r ≡ finishedOf wanted (worldOf session (now (memory .entry)) (now (ports .entry))) (now (text .entry)) held (now (out .entry)) ⌝ }
+    ensures fed { λ r. ⌜ r ≡ finishedOf (wantedBy wanted) (worldOf session (now (memory .entry)) (now (ports .entry))) (now (text .entry)) held (now (out .entry)) ⌝ }
     ensures text_left { λ _. ⌜ now (text .exit) ≡
-        finishedText wanted (worldOf session (now (memory .entry)) (now (ports .entry))) (now (text .entry)) held (now (out .entry)) ⌝ }
+        finishedText (wantedBy wanted) (worldOf session (now (memory .entry)) (now (ports .entry))) (now (text .entry)) held (now (out .entry)) ⌝ }
     ensures out_left { λ _. ⌜ now (out .exit) ≡
-        finishedOut wanted (worldOf session (now (memory .entry)) (now (ports .entry))) (now (text .entry)) held (now (out .entry)) ⌝ }
+        finishedOut (wantedBy wanted) (worldOf session (now (memory .entry)) (now (ports .entry))) (now (text .entry)) held (now (out .entry)) ⌝ }
     ensures memory_left { λ _. ⌜ now (memory .exit) ≡
-        finishedWorld wanted (worldOf session (now (memory .entry)) (now (ports .entry))) (now (text .entry)) held (now (out .entry)) .memory ⌝ }
+        finishedWorld (wantedBy wanted) (worldOf session (now (memory .entry)) (now (ports .entry))) (now (text .entry)) held (now (out .entry)) .memory ⌝ }
     ensures ports_left { λ _. ⌜ now (ports .exit) ≡
-        finishedWorld wanted (worldOf session (now (memory .entry)) (now (ports .entry))) (now (text .entry)) held (now (out .entry)) .ports ⌝ }
+        finishedWorld (wantedBy wanted) (worldOf session (now (memory .entry)) (now (ports .entry))) (now (text .entry)) held (now (out .entry)) .ports ⌝ }
 {
     let refusal = feed_refusal(session.bus, text, held, memory, ports);
     if refusal == ACCEPTED {

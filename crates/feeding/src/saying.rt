@@ -3,24 +3,25 @@ ghost use mathlib.Core.Path.{_≡_};
 ghost use Prim.Native.Nat.{_≤_};
 ghost use lib.ListN.{length};
 ghost use lib.Seq.{sets};
-ghost use Rattle.session.specs.World.{faultAnswer, replyAs, eventAs, mostSaid};
+ghost use Rattle.session.specs.World.{faultAnswer, wantedBy, replyAs, eventAs, mostSaid};
 use events::Answer;
 use judgement::Event;
 use pins::sizes::MOST_PICTURED;
 use printing::put_answer;
 use printing::put_pictures;
-use session::Wanted;
+use session::WANTS_ANSWERS;
 use stepping::bare_with;
 use text::ANSWER_LENGTH;
 use text::Fault;
 
 // The most bytes that are written for a line.
-pub fn most_said(wanted: Wanted) -> usize
-    ensures { λ r. ⌜ r ≡ mostSaid wanted ⌝ }
+pub fn most_said(wanted: u8) -> usize
+    ensures { λ r. ⌜ r ≡ mostSaid (wantedBy wanted) ⌝ }
 {
-    match wanted {
-        Wanted::Answers => ANSWER_LENGTH,
-        Wanted::Pictures => MOST_PICTURED,
+    if wanted == WANTS_ANSWERS {
+        ANSWER_LENGTH
+    } else {
+        MOST_PICTURED
     }
 }
 
@@ -32,25 +33,27 @@ pub fn fault_answer(fault: Fault) -> Answer
 }
 
 // For a line that is no event.
-pub fn put_reply(wanted: Wanted, answer: Answer, out: &mut [u8]) -> usize
-    requires { ⌜ mostSaid wanted ≤ length (now out) ⌝ }
-    ensures put { λ r. ⌜ r ≡ length (replyAs wanted answer) ⌝ }
-    ensures left { λ _. ⌜ now (out .exit) ≡ sets (now (out .entry)) 0 (replyAs wanted answer) ⌝ }
+pub fn put_reply(wanted: u8, answer: Answer, out: &mut [u8]) -> usize
+    requires { ⌜ mostSaid (wantedBy wanted) ≤ length (now out) ⌝ }
+    ensures put { λ r. ⌜ r ≡ length (replyAs (wantedBy wanted) answer) ⌝ }
+    ensures left { λ _. ⌜ now (out .exit) ≡ sets (now (out .entry)) 0 (replyAs (wantedBy wanted) answer) ⌝ }
 {
-    match wanted {
-        Wanted::Answers => put_answer(answer, out),
-        Wanted::Pictures => 0,
+    if wanted == WANTS_ANSWERS {
+        put_answer(answer, out)
+    } else {
+        0
     }
 }
 
 // For an event.
-pub fn put_event(wanted: Wanted, event: Event, answer: Answer, out: &mut [u8]) -> usize
-    requires { ⌜ mostSaid wanted ≤ length (now out) ⌝ }
-    ensures put { λ r. ⌜ r ≡ length (eventAs wanted event answer) ⌝ }
-    ensures left { λ _. ⌜ now (out .exit) ≡ sets (now (out .entry)) 0 (eventAs wanted event answer) ⌝ }
+pub fn put_event(wanted: u8, event: Event, answer: Answer, out: &mut [u8]) -> usize
+    requires { ⌜ mostSaid (wantedBy wanted) ≤ length (now out) ⌝ }
+    ensures put { λ r. ⌜ r ≡ length (eventAs (wantedBy wanted) event answer) ⌝ }
+    ensures left { λ _. ⌜ now (out .exit) ≡ sets (now (out .entry)) 0 (eventAs (wantedBy wanted) event answer) ⌝ }
 {
-    match wanted {
-        Wanted::Answers => put_answer(answer, out),
-        Wanted::Pictures => put_pictures(event, answer, out),
+    if wanted == WANTS_ANSWERS {
+        put_answer(answer, out)
+    } else {
+        put_pictures(event, answer, out)
     }
 }

@@ -7,7 +7,7 @@ ghost use lib.ListN.{length};
 ghost use lib.Seq.{sets};
 ghost use Rattle.bus.specs.Sense.{makesSense};
 ghost use Rattle.judgement.specs.Refusals.{hasWrongBuffers};
-ghost use Rattle.session.specs.World.{world, mostSaid};
+ghost use Rattle.session.specs.World.{world, wantedBy, mostSaid};
 ghost use Rattle.session.specs.Feeding.{takes, takesFirst, hasRoom, linesTaken, told, worldOf};
 ghost use Rattle.session.specs.declared.state.Stage.the-variants.{Awaiting, Running, Ended};
 ghost use Rattle.session.specs.declared.state.Wanted.{Wanted};
@@ -25,7 +25,6 @@ use reading::setup_line;
 use session::Session;
 use session::Stage;
 use session::TakenLines;
-use session::Wanted;
 use stepping::sound_step;
 use text::EVENT_DIGITS;
 use text::Line;
@@ -34,8 +33,8 @@ use text::Line;
 const EVENT_BYTES: usize = EVENT_DIGITS + 1;
 
 // In a place with so many bytes written, another line would have room.
-pub fn has_room(wanted: Wanted, out: &[u8], written: usize) -> bool
-    ensures { λ r. ⌜ r ≡ hasRoom wanted (length (now (out .entry))) written ⌝ }
+pub fn has_room(wanted: u8, out: &[u8], written: usize) -> bool
+    ensures { λ r. ⌜ r ≡ hasRoom (wantedBy wanted) (length (now (out .entry))) written ⌝ }
 {
     if written <= out.len() {
         most_said(wanted) <= out.len() - written
@@ -46,7 +45,7 @@ pub fn has_room(wanted: Wanted, out: &[u8], written: usize) -> bool
 
 // As many lines as have ended and find room, one after another: each is read from the slice behind the newline before it.
 pub fn take_lines(
-    wanted: Wanted,
+    wanted: u8,
     start: Session,
     text: &[u8],
     out: &mut [u8],
@@ -56,14 +55,14 @@ pub fn take_lines(
     requires { ⌜ hasWrongBuffers (now memory) (now ports) ≡ false ⌝ }
     requires { ⌜ makesSense (start .bus) ≡ true ⌝ }
     ensures taken { λ r. ⌜ r ≡
-        linesTaken (takes wanted (length (now (out .entry))) (worldOf start (now (memory .entry)) (now (ports .entry))) (now (text .entry))) ⌝ }
+        linesTaken (takes (wantedBy wanted) (length (now (out .entry))) (worldOf start (now (memory .entry)) (now (ports .entry))) (now (text .entry))) ⌝ }
     ensures out_left { λ _. ⌜ now (out .exit) ≡
-        sets (now (out .entry)) 0 (takes wanted (length (now (out .entry)))
+        sets (now (out .entry)) 0 (takes (wantedBy wanted) (length (now (out .entry)))
         (worldOf start (now (memory .entry)) (now (ports .entry))) (now (text .entry)) .said) ⌝ }
     ensures memory_left { λ _. ⌜ now (memory .exit) ≡
-        takes wanted (length (now (out .entry))) (worldOf start (now (memory .entry)) (now (ports .entry))) (now (text .entry)) .state .memory ⌝ }
+        takes (wantedBy wanted) (length (now (out .entry))) (worldOf start (now (memory .entry)) (now (ports .entry))) (now (text .entry)) .state .memory ⌝ }
     ensures ports_left { λ _. ⌜ now (ports .exit) ≡
-        takes wanted (length (now (out .entry))) (worldOf start (now (memory .entry)) (now (ports .entry))) (now (text .entry)) .state .ports ⌝ }
+        takes (wantedBy wanted) (length (now (out .entry))) (worldOf start (now (memory .entry)) (now (ports .entry))) (now (text .entry)) .state .ports ⌝ }
 {
     let most = most_said(wanted);
     let mut stage = start.stage;
@@ -96,7 +95,7 @@ pub fn take_lines(
 
 // The line that a text begins with, by the stage.
 fn take_line(
-    wanted: Wanted,
+    wanted: u8,
     stage: Stage,
     bus: Bus,
     rest: &[u8],
@@ -104,16 +103,16 @@ fn take_line(
     memory: &mut [u8],
     ports: &mut [u8],
 ) -> TakenLines
-    requires { ⌜ mostSaid wanted ≤ length (now out) ⌝ }
+    requires { ⌜ mostSaid (wantedBy wanted) ≤ length (now out) ⌝ }
     requires { ⌜ hasWrongBuffers (now memory) (now ports) ≡ false ⌝ }
     requires { ⌜ makesSense bus ≡ true ⌝ }
-    ensures taken { λ r. ⌜ r ≡ linesTaken (takesFirst wanted (world stage bus (now (memory .entry)) (now (ports .entry))) (now (rest .entry))) ⌝ }
+    ensures taken { λ r. ⌜ r ≡ linesTaken (takesFirst (wantedBy wanted) (world stage bus (now (memory .entry)) (now (ports .entry))) (now (rest .entry))) ⌝ }
     ensures out_left { λ _. ⌜ now (out .exit) ≡
-        sets (now (out .entry)) 0 (takesFirst wanted (world stage bus (now (memory .entry)) (now (ports .entry))) (now (rest .entry)) .said) ⌝ }
+        sets (now (out .entry)) 0 (takesFirst (wantedBy wanted) (world stage bus (now (memory .entry)) (now (ports .entry))) (now (rest .entry)) .said) ⌝ }
     ensures memory_left { λ _. ⌜ now (memory .exit) ≡
-        takesFirst wanted (world stage bus (now (memory .entry)) (now (ports .entry))) (now (rest .entry)) .state .memory ⌝ }
+        takesFirst (wantedBy wanted) (world stage bus (now (memory .entry)) (now (ports .entry))) (now (rest .entry)) .state .memory ⌝ }
     ensures ports_left { λ _. ⌜ now (ports .exit) ≡
-        takesFirst wanted (world stage bus (now (memory .entry)) (now (ports .entry))) (now (rest .entry)) .state .ports ⌝ }
+        takesFirst (wantedBy wanted) (world stage bus (now (memory .entry)) (now (ports .entry))) (now (rest .entry)) .state .ports ⌝ }
 {
     match stage {
         Stage::Awaiting => take_setup(wanted, bus, rest, out),
@@ -123,11 +122,11 @@ fn take_line(
 }
 
 // The setup line goes by neither memory nor ports.
-fn take_setup(wanted: Wanted, bus: Bus, rest: &[u8], out: &mut [u8]) -> TakenLines
-    requires { ⌜ mostSaid wanted ≤ length (now out) ⌝ }
-    ensures taken { λ r. ⌜ ((memory ports : List ℕ) → r ≡ linesTaken (takesFirst wanted (world Awaiting bus memory ports) (now (rest .entry)))) ⌝ }
+fn take_setup(wanted: u8, bus: Bus, rest: &[u8], out: &mut [u8]) -> TakenLines
+    requires { ⌜ mostSaid (wantedBy wanted) ≤ length (now out) ⌝ }
+    ensures taken { λ r. ⌜ ((memory ports : List ℕ) → r ≡ linesTaken (takesFirst (wantedBy wanted) (world Awaiting bus memory ports) (now (rest .entry)))) ⌝ }
     ensures out_left { λ _. ⌜ ((memory ports : List ℕ) → now (out .exit) ≡
-        sets (now (out .entry)) 0 (takesFirst wanted (world Awaiting bus memory ports) (now (rest .entry)) .said)) ⌝ }
+        sets (now (out .entry)) 0 (takesFirst (wantedBy wanted) (world Awaiting bus memory ports) (now (rest .entry)) .said)) ⌝ }
 {
     let end = line_end(rest);
     if end < rest.len() {
@@ -141,23 +140,23 @@ fn take_setup(wanted: Wanted, bus: Bus, rest: &[u8], out: &mut [u8]) -> TakenLin
 }
 
 fn take_event(
-    wanted: Wanted,
+    wanted: u8,
     bus: Bus,
     rest: &[u8],
     out: &mut [u8],
     memory: &mut [u8],
     ports: &mut [u8],
 ) -> TakenLines
-    requires { ⌜ mostSaid wanted ≤ length (now out) ⌝ }
+    requires { ⌜ mostSaid (wantedBy wanted) ≤ length (now out) ⌝ }
     requires { ⌜ hasWrongBuffers (now memory) (now ports) ≡ false ⌝ }
     requires { ⌜ makesSense bus ≡ true ⌝ }
-    ensures taken { λ r. ⌜ r ≡ linesTaken (takesFirst wanted (world Running bus (now (memory .entry)) (now (ports .entry))) (now (rest .entry))) ⌝ }
+    ensures taken { λ r. ⌜ r ≡ linesTaken (takesFirst (wantedBy wanted) (world Running bus (now (memory .entry)) (now (ports .entry))) (now (rest .entry))) ⌝ }
     ensures out_left { λ _. ⌜ now (out .exit) ≡
-        sets (now (out .entry)) 0 (takesFirst wanted (world Running bus (now (memory .entry)) (now (ports .entry))) (now (rest .entry)) .said) ⌝ }
+        sets (now (out .entry)) 0 (takesFirst (wantedBy wanted) (world Running bus (now (memory .entry)) (now (ports .entry))) (now (rest .entry)) .said) ⌝ }
     ensures memory_left { λ _. ⌜ now (memory .exit) ≡
-        takesFirst wanted (world Running bus (now (memory .entry)) (now (ports .entry))) (now (rest .entry)) .state .memory ⌝ }
+        takesFirst (wantedBy wanted) (world Running bus (now (memory .entry)) (now (ports .entry))) (now (rest .entry)) .state .memory ⌝ }
     ensures ports_left { λ _. ⌜ now (ports .exit) ≡
-        takesFirst wanted (world Running bus (now (memory .entry)) (now (ports .entry))) (now (rest .entry)) .state .ports ⌝ }
+        takesFirst (wantedBy wanted) (world Running bus (now (memory .entry)) (now (ports .entry))) (now (rest .entry)) .state .ports ⌝ }
 {
     let line = next_line(rest);
     match line {

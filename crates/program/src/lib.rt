@@ -9,7 +9,6 @@ use feeding::has_room;
 use libc::STDOUT_FILENO;
 use session::Session;
 use session::Stage;
-use session::Wanted;
 
 // A turn's end.
 struct Turn {
@@ -29,7 +28,7 @@ struct Filled {
 }
 
 // It has no result, and no contract can say what is read and written: the runs compare that.
-pub fn run(wanted: Wanted, input: i32)
+pub fn run(wanted: u8, input: i32)
     ensures { λ r. ⌜ r ≡ tt ⌝ }
 {
     let mut text = [0u8; 32768];
@@ -41,7 +40,7 @@ pub fn run(wanted: Wanted, input: i32)
 
 // A proved loop ends, and no input is as long as this one may go on.
 fn take_turns(
-    wanted: Wanted,
+    wanted: u8,
     input: i32,
     text: &mut [u8],
     out: &mut [u8],
@@ -71,7 +70,7 @@ fn turns_left(left: u64, goes_on: bool) -> u64
 
 // It reads only once every complete line is taken, so that nobody waits for an answer or a picture while the program waits for more.
 fn take_turn(
-    wanted: Wanted,
+    wanted: u8,
     session: Session,
     filled: Filled,
     text: &mut [u8],
@@ -104,7 +103,7 @@ fn has_ended(stage: Stage) -> bool {
 
 // Where the input has ended, the unended last line.
 fn last(
-    wanted: Wanted,
+    wanted: u8,
     is_last: bool,
     session: Session,
     held: usize,

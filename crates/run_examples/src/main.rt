@@ -14,7 +14,7 @@ fn run_file(n: usize) {
     let size = os::arg(n, &mut name);
     if size <= 64 {
         let input = os::open_read(&name[..size]);
-        program::run(session::Wanted::Answers, input);
+        program::run(session::WANTS_ANSWERS, input);
         libc::close(input);
     }
 }

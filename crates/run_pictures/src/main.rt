@@ -14,7 +14,7 @@ fn picture_file(n: usize) {
     let size = os::arg(n, &mut name);
     if size <= 64 {
         let input = os::open_read(&name[..size]);
-        program::run(session::Wanted::Pictures, input);
+        program::run(session::WANTS_PICTURES, input);
         libc::close(input);
     }
 }

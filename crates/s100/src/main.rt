@@ -1,4 +1,4 @@
 // The text program.
 fn main() {
-    program::run(session::Wanted::Answers, libc::STDIN_FILENO);
+    program::run(session::WANTS_ANSWERS, libc::STDIN_FILENO);
 }

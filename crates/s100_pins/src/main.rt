@@ -1,4 +1,4 @@
 // The text program that prints pictures of the pins.
 fn main() {
-    program::run(session::Wanted::Pictures, libc::STDIN_FILENO);
+    program::run(session::WANTS_PICTURES, libc::STDIN_FILENO);
 }

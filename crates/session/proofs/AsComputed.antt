@@ -10,8 +10,8 @@ use Rattle.bus.specs.Sense.{drivingFits, standingFits, makesSense}
 use Rattle.text.specs.Digits.{numberAfter, digitsOf}
 use Rattle.text.specs.Newlines.{linesAfter, lastLine}
 use Rattle.text.specs.Reading.{answersTo}
-use Rattle.session.specs.World.{saysBy, turnsBy, freshWorld}
-use Rattle.session.specs.Examples.{SetupOutputs, BadLineOutputs, PictureOutputs, FreshSession, CallRefusals}
+use Rattle.session.specs.World.{wantedBy, saysBy, turnsBy, freshWorld}
+use Rattle.session.specs.Examples.{SetupOutputs, BadLineOutputs, PictureOutputs, WantedNumbers, FreshSession, CallRefusals}
 
 pub setup-outputs : SetupOutputs
 unfolding beside signalsIn everyListed allBelow leastBelow orBelow shown numberAfter digitsOf linesAfter lastLine answersTo saysBy turnsBy freshWorld
@@ -35,6 +35,10 @@ bad-line-outputs = record { each = refl; misspelt = refl; returns = refl; cut = 
 pub picture-outputs : PictureOutputs
 unfolding beside signalsIn everyListed allBelow leastBelow orBelow shown numberAfter digitsOf linesAfter lastLine answersTo saysBy turnsBy freshWorld
 picture-outputs = record { setUp = refl; bad = refl; misspelt = refl; refused = refl; refusedLower = refl }
+
+pub wanted-numbers : WantedNumbers
+unfolding wantedBy
+wanted-numbers = record { answers = refl; pictures = refl; other = refl }
 
 pub fresh-session : FreshSession
 fresh-session = record { waits = refl; noCards = refl; noPages = refl }

@@ -11,7 +11,7 @@ use Rattle.bus.specs.declared.state.Bus.{Bus}
 use Rattle.judgement.specs.Refusals.{hasWrongBuffers}
 use Rattle.text.specs.Newlines.{newline}
 use Rattle.text.specs.Examples.{wordWrite, thirteen, lowerA, withByteIn, setup}
-use Rattle.session.specs.World.{fresh}
+use Rattle.session.specs.World.{fresh, wantedBy}
 use Rattle.session.specs.Feeding.{feedRefusal}
 use Rattle.session.specs.Output.{output}
 use Rattle.session.specs.declared.state.Stage.the-variants.{Awaiting}
@@ -78,6 +78,12 @@ pub record PictureOutputs : Type 0 where
   pub misspelt : output Pictures (setup ++ newline ∷ lowerA ++ newline ∷ []) ≡ []
   pub refused : output Pictures (page3 ++ newline ∷ resetFrame ++ newline ∷ []) ≡ []
   pub refusedLower : output Pictures (lower ++ newline ∷ resetFrame ++ newline ∷ []) ≡ []
+
+-- The numbers that the programs hand on, and any other.
+pub record WantedNumbers : Type 0 where
+  pub answers : wantedBy 0 ≡ Answers
+  pub pictures : wantedBy 1 ≡ Pictures
+  pub other : wantedBy 0xFF ≡ Pictures
 
 -- ---- A session before its first line, and the refusals of a call
 

@@ -62,6 +62,13 @@ stageAfter given = cond (eqb (given .answer) Refusal.accepted) Running Ended
 
 -- ---- What is written: answers (01), or pictures (02, CR 1)
 
+abbrev pub wantsAnswers : ℕ
+wantsAnswers = 0
+
+-- by its number, as the calls hand it on; any other number asks for pictures
+unfoldable pub wantedBy : ℕ → Wanted
+wantedBy number = cond (eqb number wantsAnswers) Answers Pictures
+
 -- for a line that is no event: nothing of it is pictured
 abbrev pub replyAs : Wanted → Answer → List ℕ
 replyAs Answers answer = answerLine answer

@@ -6,4 +6,6 @@ pub use calls::Fed;
 pub use calls::TakenLines;
 pub use state::Session;
 pub use state::Stage;
+pub use state::WANTS_ANSWERS;
+pub use state::WANTS_PICTURES;
 pub use state::Wanted;

@@ -15,6 +15,11 @@ pub struct Session {
     pub bus: Bus,
 }
 
+// The numbers by which calls hand on what is wanted: a number that doesn't change in a program is one that its compiler sees.
+pub const WANTS_ANSWERS: u8 = 0;
+
+pub const WANTS_PICTURES: u8 = 1;
+
 // What is written for the lines of a run.
 pub enum Wanted {
     // An answer line for each line.

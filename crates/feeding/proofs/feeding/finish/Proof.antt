@@ -4,6 +4,7 @@ use borrow.Author.Needs.{needs}
 use borrow.Author.Tests.{eq-eqb, ne-eqb}
 use Prim.Native.Nat.{ℕ}
 use Rattle.bus.specs.Refusal as Refusal
+use Rattle.session.specs.World.{wantedBy}
 use Rattle.session.specs.Feeding.{worldOf, feedRefusal, refusedFed}
 use Rattle.session.proofs.FeedLaws.{call-accepted, ended-within, finished}
 use Rattle.feeding.proofs.feeding.finish.Statement.{statement}
@@ -69,7 +70,7 @@ returns c =
     let from = start (given .before) .args in
     let so = ended .end-line .ensures in
     rw (eq-eqb (refusal (given .before)) Refusal.accepted (not-refused given)) (
-    finished (from .wanted) (worldOf (from .session) (from .memory .now) (from .ports .now)) (from .text .now) (from .out .now) (from .held) _ _ _ _ _ _ _
+    finished (wantedBy (from .wanted)) (worldOf (from .session) (from .memory .now) (from .ports .now)) (from .text .now) (from .out .now) (from .held) _ _ _ _ _ _ _
     (so .0) (so .1) (taken .take-in .ensures))
 
 same-length-5 : tie.Need-same-length-5

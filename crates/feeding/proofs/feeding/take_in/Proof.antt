@@ -3,7 +3,7 @@ use mathlib.Core.Path.{sym}
 use borrow.Author.Needs.{needs}
 use lib.Seq.{length-take-le}
 use Rattle.session.specs.Feeding.{worldOf}
-use Rattle.session.specs.World.{World}
+use Rattle.session.specs.World.{wantedBy, World}
 use Rattle.session.proofs.FeedLaws.{used-within, fed-taken}
 use Rattle.feeding.proofs.feeding.take_in.Statement.{statement}
 use Rattle.feeding.proofs.feeding.take_in.Tie as tie
@@ -35,7 +35,7 @@ hold-requires : tie.Need-hold-requires
 hold-requires c κs =
     let lines = c .before .before .before .before .before .before .before in
     let from = start lines in (
-      used-within (from .args .wanted) (given lines) (from .args .text .now) (from .args .out .now) (from .args .filled) (lines .take-lines .result)
+      used-within (wantedBy (from .args .wanted)) (given lines) (from .args .text .now) (from .args .out .now) (from .args .filled) (lines .take-lines .result)
           (from .pre .0) (lines .take-lines .ensures .0),
       from .pre .0,
     )
@@ -57,7 +57,7 @@ returns c =
     let held = c .before .before .before in
     let lines = at-lines held in
     let from = start lines .args in
-    fed-taken (from .wanted) (given lines) (from .text .now) (from .out .now) (from .filled) (lines .take-lines .result) (held .hold .result) _ _ _ _
+    fed-taken (wantedBy (from .wanted)) (given lines) (from .text .now) (from .out .now) (from .filled) (lines .take-lines .result) (held .hold .result) _ _ _ _
     (lines .take-lines .ensures) (held .hold .ensures .0) (held .hold .ensures .1)
 
 pub take-in-spec : {M : Type 1} → statement M

@@ -1,42 +1,29 @@
 -- By what is wanted: of a line that is no event there is no picture.
+use mathlib.Core.Path.{refl}
 use borrow.Author.Needs.{needs}
-use Rattle.session.specs.World.{replyAs}
-use Rattle.session.specs.declared.state.Wanted.the-variants.{Answers}
-use Rattle.feeding.proofs.SayingLaws.{answer-put, as-found}
+use Rattle.session.specs.World.{wantedBy, replyAs}
+use Rattle.session.specs.declared.state.Wanted.the-variants.{Answers, Pictures}
+use Rattle.feeding.proofs.SayingLaws.{wants-answers, wants-pictures, answer-put, as-found}
 use Rattle.feeding.proofs.saying.put_reply.Statement.{statement}
 use Rattle.feeding.proofs.saying.put_reply.Tie as tie
-
--- where an answer is wanted
-abbrev at-answers : tie.After-put-answer → tie.After-enum-told
-at-answers c = c .before .before
-
-abbrev start : tie.After-enum-told → tie.Start
-start c = c .before .before .before
-
-enum-told : tie.Need-enum-told
-enum-told c = search needs
-
-put-answer-requires : tie.Need-put-answer-requires
-put-answer-requires c κs = search needs
-
-enum-told-2 : tie.Need-enum-told-2
-enum-told-2 c = search needs
-
-same-length : tie.Need-same-length
-same-length c = search needs
 
 returns : tie.Need-returns
 returns c =
     let put = c .before .before in
-    let arm = at-answers put in
-    let from = start arm in
+    let arm = put .before .before in
+    let from = arm .before .before in
+    let wanted = from .args .wanted in
     let answer = from .args .answer in
     let place = from .args .out .now in
-    as-found place _ _ (λ w. replyAs w answer) (from .args .wanted) Answers (arm .enum-told .given .1) (from .pre)
+    as-found place _ _ (λ w. replyAs w answer) (wantedBy wanted) Answers (wants-answers wanted (arm .if1 .taken)) (from .pre)
     (λ room. answer-put place _ _ answer room (put .put-answer .ensures))
 
 returns-2 : tie.Need-returns-2
-returns-2 c = search needs
+returns-2 c =
+    let from = c .before .before in
+    let wanted = from .args .wanted in
+    as-found (from .args .out .now) _ _ (λ w. replyAs w (from .args .answer)) (wantedBy wanted) Pictures (wants-pictures wanted (c .if1 .left)) (from .pre)
+    (λ room. (refl, refl))
 
 pub put-reply-spec : {M : Type 1} → statement M
-put-reply-spec = tie.close (tie.spec enum-told put-answer-requires enum-told-2 same-length returns returns-2)
+put-reply-spec = tie.close (tie.spec (λ c κs. search needs) (λ c. search needs) returns returns-2)

@@ -6,7 +6,7 @@ use borrow.Author.Needs.{needs}
 use borrow.Author.Tests.{lt-leb}
 use lib.Dec.{leb}
 use lib.ListN.{length}
-use Rattle.session.specs.World.{mostSaid}
+use Rattle.session.specs.World.{wantedBy, mostSaid}
 use Rattle.session.proofs.LoopLaws.{some-said}
 use Rattle.feeding.proofs.taking.has_room.Statement.{statement}
 use Rattle.feeding.proofs.taking.has_room.Tie as tie
@@ -27,7 +27,7 @@ returns c =
 returns-2 : tie.Need-returns-2
 returns-2 c =
     let from = start (c .before) .args in
-    sym (lt-leb (mostSaid (from .wanted)) (length (from .out .now) - from .written) (omega (arith, c .if1 .left, some-said (from .wanted))))
+    sym (lt-leb (mostSaid (wantedBy (from .wanted))) (length (from .out .now) - from .written) (omega (arith, c .if1 .left, some-said (wantedBy (from .wanted)))))
 
 pub has-room-spec : {M : Type 1} → statement M
 has-room-spec = tie.close (tie.spec most-said-requires sub-result returns returns-2)

@@ -1,5 +1,6 @@
 -- By the stage.
 use borrow.Author.Needs.{needs}
+use Rattle.session.specs.World.{wantedBy}
 use Rattle.session.specs.declared.state.Stage.the-variants.{Awaiting, Running, Ended}
 use Rattle.session.proofs.LineLaws.{at-stage, awaiting-keeps, ended-keeps, ended-silent}
 use Rattle.feeding.proofs.taking.take_line.Statement.{statement}
@@ -51,8 +52,8 @@ returns c =
     let from = at-setup line .args in
     let m = from .memory .now in
     let p = from .ports .now in
-    at-stage (from .wanted) (from .stage) Awaiting (from .bus) m p (from .rest .now) (from .out .now) _ _ m p (line .before .before .enum-told .given .1)
-    (line .take-setup .ensures .0 m p, (line .take-setup .ensures .1 m p, awaiting-keeps (from .wanted) (from .bus) (from .rest .now) m p))
+    at-stage (wantedBy (from .wanted)) (from .stage) Awaiting (from .bus) m p (from .rest .now) (from .out .now) _ _ m p (line .before .before .enum-told .given .1)
+    (line .take-setup .ensures .0 m p, (line .take-setup .ensures .1 m p, awaiting-keeps (wantedBy (from .wanted)) (from .bus) (from .rest .now) m p))
 
 same-length-2 : tie.Need-same-length-2
 same-length-2 c = search needs
@@ -67,7 +68,7 @@ returns-2 : tie.Need-returns-2
 returns-2 c =
     let line = c .before .before .before .before .before .before in
     let from = at-event line .args in
-    at-stage (from .wanted) (from .stage) Running (from .bus) (from .memory .now) (from .ports .now) (from .rest .now) (from .out .now) _ _ _ _
+    at-stage (wantedBy (from .wanted)) (from .stage) Running (from .bus) (from .memory .now) (from .ports .now) (from .rest .now) (from .out .now) _ _ _ _
     (line .before .before .before .before .enum-told2 .given .1) (line .take-event .ensures)
 
 returns-3 : tie.Need-returns-3
@@ -75,9 +76,9 @@ returns-3 c =
     let from = at-ended c .args in
     let m = from .memory .now in
     let p = from .ports .now in
-    at-stage (from .wanted) (from .stage) Ended (from .bus) m p (from .rest .now) (from .out .now) _ _ m p (c .before .enum-told3 .given .1) (
-      c .pass-line .ensures (from .wanted) m p,
-      (ended-silent (from .wanted) (from .bus) m p (from .rest .now) (from .out .now), ended-keeps (from .wanted) (from .bus) (from .rest .now) m p),
+    at-stage (wantedBy (from .wanted)) (from .stage) Ended (from .bus) m p (from .rest .now) (from .out .now) _ _ m p (c .before .enum-told3 .given .1) (
+      c .pass-line .ensures (wantedBy (from .wanted)) m p,
+      (ended-silent (wantedBy (from .wanted)) (from .bus) m p (from .rest .now) (from .out .now), ended-keeps (wantedBy (from .wanted)) (from .bus) (from .rest .now) m p),
     )
 
 pub take-line-spec : {M : Type 1} → statement M

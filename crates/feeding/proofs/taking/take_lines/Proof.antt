@@ -5,7 +5,7 @@ use native.Mathlib.Omega.{arith}
 use borrow.Author.Needs.{needs}
 use borrow.Rule.Slice.PartMut.{midOf, same-len-mid}
 use lib.ListN.{length}
-use Rattle.session.specs.World.{world, mostSaid}
+use Rattle.session.specs.World.{wantedBy, world, mostSaid}
 use Rattle.session.specs.declared.state.Wanted.{Wanted}
 use Rattle.session.proofs.LoopLaws.{Turning, turning-start, turning-next, turning-none, size-within, written-most, rest-less, returned-full, room-behind}
 use Rattle.feeding.proofs.taking.take_lines.Statement.{statement}
@@ -13,7 +13,7 @@ use Rattle.feeding.proofs.taking.take_lines.Tie as tie
 
 abbrev Inv-loop : tie.InvT-loop
 Inv-loop wanted text out₀ memory₀ ports₀ most stage₀ bus₀ rest₀ used₀ written₀ out memory ports stage bus rest used written =
-    Turning wanted text out₀ (world stage₀ bus₀ memory₀ ports₀) out memory ports stage bus rest used written
+    Turning (wantedBy wanted) text out₀ (world stage₀ bus₀ memory₀ ports₀) out memory ports stage bus rest used written
 
 abbrev μ-loop : tie.MeasureT-loop
 μ-loop wanted text out₀ memory₀ ports₀ most stage₀ bus₀ rest₀ used₀ written₀ out memory ports stage bus rest used written = length rest
@@ -34,7 +34,7 @@ abbrev start : AtLoop → tie.Start Inv-loop μ-loop
 start c = c .before .before .before .before .before .before .before
 
 abbrev wanted : AtLoop → Wanted
-wanted c = start c .args .wanted
+wanted c = wantedBy (start c .args .wanted)
 
 -- the most that is said, in the code's local
 most-is : (c : AtLoop) → c .before .before .most-said .result ≡ mostSaid (wanted c)
@@ -63,7 +63,7 @@ most-said-requires c κs = search needs
 loop-holds : tie.Need-loop-holds Inv-loop μ-loop
 loop-holds c =
     let start = c .before .before .before .before .before .before in
-    turning-start (start .args .wanted) (start .args .text .now) (start .args .out .now) (start .args .memory .now) (start .args .ports .now)
+    turning-start (wantedBy (start .args .wanted)) (start .args .text .now) (start .args .out .now) (start .args .memory .now) (start .args .ports .now)
     (start .args .start .stage) (start .args .start .bus) (record { fit = start .pre .0; sense = start .pre .1 })
 
 sub-loop : tie.Need-sub-loop Inv-loop μ-loop

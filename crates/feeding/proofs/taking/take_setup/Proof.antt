@@ -4,7 +4,7 @@ use native.Mathlib.Omega.{arith}
 use borrow.Author.Needs.{needs}
 use lib.ListN.{length}
 use lib.Seq.{sets, length-take-le}
-use Rattle.session.specs.World.{replyAs}
+use Rattle.session.specs.World.{wantedBy, replyAs}
 use Rattle.session.specs.declared.state.Stage.the-variants.{Awaiting}
 use Rattle.session.proofs.LineLaws.{setup-taken, not-taken}
 use Rattle.feeding.proofs.taking.take_setup.Statement.{statement}
@@ -70,18 +70,18 @@ returns c =
     let line = at-line read in
     let from = start (line .before) in
     rw (c .told .ensures, c .before .stage-after .ensures) (
-    setup-taken (from .args .wanted) (from .args .bus) (from .args .rest .now) (from .args .out .now) (line .before .line-end .result)
+    setup-taken (wantedBy (from .args .wanted)) (from .args .bus) (from .args .rest .now) (from .args .out .now) (line .before .line-end .result)
     (line .before .line-end .ensures) (line .if1 .taken) (read .setup-line .result) (given .set-up .result) _ _ (read .setup-line .ensures)
     (given .set-up .ensures)
-    (put .put-reply .ensures .0 ∙ ap (λ a. length (replyAs (from .args .wanted) a)) (put .before .before .setup-answer .ensures))
-    (put .put-reply .ensures .1 ∙ ap (λ a. sets (from .args .out .now) 0 (replyAs (from .args .wanted) a)) (put .before .before .setup-answer .ensures)))
+    (put .put-reply .ensures .0 ∙ ap (λ a. length (replyAs (wantedBy (from .args .wanted)) a)) (put .before .before .setup-answer .ensures))
+    (put .put-reply .ensures .1 ∙ ap (λ a. sets (from .args .out .now) 0 (replyAs (wantedBy (from .args .wanted)) a)) (put .before .before .setup-answer .ensures)))
 
 returns-2 : tie.Need-returns-2
 returns-2 c =
     let line = c .before in
     let from = start (line .before) in
     rw (c .told2 .ensures) (
-    not-taken (from .args .wanted) Awaiting (from .args .bus) (from .args .rest .now) (from .args .out .now) (line .before .line-end .result)
+    not-taken (wantedBy (from .args .wanted)) Awaiting (from .args .bus) (from .args .rest .now) (from .args .out .now) (line .before .line-end .result)
     (line .before .line-end .ensures) (line .if1 .left))
 
 pub take-setup-spec : {M : Type 1} → statement M
