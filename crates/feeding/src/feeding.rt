@@ -30,7 +30,8 @@ pub fn feed(
     memory: &mut [u8],
     ports: &mut [u8],
 ) -> Fed
-    ensures fed { λ r. ⌜ r ≡ fedOf (wantedBy wanted) (worldOf session (now (memory .entry)) (now (ports .entry))) (now (text .entry)) filled (now (out .entry)) ⌝ }
+    ensures fed { λ r. ⌜ r ≡
+        fedOf (wantedBy wanted) (worldOf session (now (memory .entry)) (now (ports .entry))) (now (text .entry)) filled (now (out .entry)) ⌝ }
     ensures text_left { λ _. ⌜ now (text .exit) ≡
         textLeft (wantedBy wanted) (worldOf session (now (memory .entry)) (now (ports .entry))) (now (text .entry)) filled (now (out .entry)) ⌝ }
     ensures out_left { λ _. ⌜ now (out .exit) ≡
@@ -73,7 +74,8 @@ fn take_in(
     requires { ⌜ hasWrongBuffers (now memory) (now ports) ≡ false ⌝ }
     requires { ⌜ makesSense (session .bus) ≡ true ⌝ }
     ensures fed { λ r. ⌜ r ≡
-        takenFed (takes (wantedBy wanted) (length (now (out .entry))) (worldOf session (now (memory .entry)) (now (ports .entry))) (take filled (now (text .entry)))) ⌝ }
+        takenFed (takes (wantedBy wanted) (length (now (out .entry)))
+        (worldOf session (now (memory .entry)) (now (ports .entry))) (take filled (now (text .entry)))) ⌝ }
     ensures text_left { λ _. ⌜ now (text .exit) ≡
         heldIn (now (text .entry)) (takes (wantedBy wanted) (length (now (out .entry)))
         (worldOf session (now (memory .entry)) (now (ports .entry))) (take filled (now (text .entry))) .rest) ⌝ }
@@ -122,7 +124,8 @@ pub fn finish(
     memory: &mut [u8],
     ports: &mut [u8],
 ) -> Fed
-    ensures fed { λ r. ⌜ r ≡ finishedOf (wantedBy wanted) (worldOf session (now (memory .entry)) (now (ports .entry))) (now (text .entry)) held (now (out .entry)) ⌝ }
+    ensures fed { λ r. ⌜ r ≡
+        finishedOf (wantedBy wanted) (worldOf session (now (memory .entry)) (now (ports .entry))) (now (text .entry)) held (now (out .entry)) ⌝ }
     ensures text_left { λ _. ⌜ now (text .exit) ≡
         finishedText (wantedBy wanted) (worldOf session (now (memory .entry)) (now (ports .entry))) (now (text .entry)) held (now (out .entry)) ⌝ }
     ensures out_left { λ _. ⌜ now (out .exit) ≡

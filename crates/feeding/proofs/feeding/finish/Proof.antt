@@ -70,7 +70,8 @@ returns c =
     let from = start (given .before) .args in
     let so = ended .end-line .ensures in
     rw (eq-eqb (refusal (given .before)) Refusal.accepted (not-refused given)) (
-    finished (wantedBy (from .wanted)) (worldOf (from .session) (from .memory .now) (from .ports .now)) (from .text .now) (from .out .now) (from .held) _ _ _ _ _ _ _
+    finished (wantedBy (from .wanted)) (worldOf (from .session) (from .memory .now) (from .ports .now)) (from .text .now) (from .out .now)
+    (from .held) _ _ _ _ _ _ _
     (so .0) (so .1) (taken .take-in .ensures))
 
 same-length-5 : tie.Need-same-length-5

@@ -27,7 +27,8 @@ returns c =
 returns-2 : tie.Need-returns-2
 returns-2 c =
     let from = start (c .before) .args in
-    sym (lt-leb (mostSaid (wantedBy (from .wanted))) (length (from .out .now) - from .written) (omega (arith, c .if1 .left, some-said (wantedBy (from .wanted)))))
+    let wanted = wantedBy (from .wanted) in
+    sym (lt-leb (mostSaid wanted) (length (from .out .now) - from .written) (omega (arith, c .if1 .left, some-said wanted)))
 
 pub has-room-spec : {M : Type 1} → statement M
 has-room-spec = tie.close (tie.spec most-said-requires sub-result returns returns-2)

@@ -91,7 +91,8 @@ returns c =
     let line = at-frame step in
     let from = start (line .before .before) in
     rw (c .told .ensures) (
-    frame-taken (wantedBy (from .args .wanted)) (from .args .bus) (from .args .memory .now) (from .args .ports .now) (from .args .rest .now) (from .args .out .now)
+    frame-taken (wantedBy (from .args .wanted)) (from .args .bus) (from .args .memory .now) (from .args .ports .now) (from .args .rest .now)
+    (from .args .out .now)
     _ _ _ (framed-line line) (from .pre .1 .0) (from .pre .1 .1) _ _ _ (step .sound-step .ensures .0) (step .sound-step .ensures .1 .0)
     (step .sound-step .ensures .1 .1) (put .put-event .ensures .0) (put .put-event .ensures .1))
 
@@ -104,7 +105,8 @@ returns-2 c =
     let line = at-bad put in
     let from = start (line .before .before) in
     rw (c .told2 .ensures) (
-    bad-taken (wantedBy (from .args .wanted)) (from .args .bus) (from .args .memory .now) (from .args .ports .now) (from .args .rest .now) (from .args .out .now)
+    bad-taken (wantedBy (from .args .wanted)) (from .args .bus) (from .args .memory .now) (from .args .ports .now) (from .args .rest .now)
+    (from .args .out .now)
     _ _ _ (spoilt-line line) _ (put .before .before .fault-answer .ensures) (put .put-reply .ensures .0) (put .put-reply .ensures .1))
 
 returns-3 : tie.Need-returns-3
@@ -112,7 +114,8 @@ returns-3 c =
     let line = c .before in
     let from = start (line .before .before) in
     rw (c .told3 .ensures) (
-    none-ended (wantedBy (from .args .wanted)) (from .args .bus) (from .args .memory .now) (from .args .ports .now) (from .args .rest .now) (from .args .out .now)
+    none-ended (wantedBy (from .args .wanted)) (from .args .bus) (from .args .memory .now) (from .args .ports .now) (from .args .rest .now)
+    (from .args .out .now)
     (sym (line .enum-told .given .1) ∙ line .before .before .next-line .ensures))
 
 pub take-event-spec : {M : Type 1} → statement M

@@ -52,7 +52,8 @@ returns c =
     let from = at-setup line .args in
     let m = from .memory .now in
     let p = from .ports .now in
-    at-stage (wantedBy (from .wanted)) (from .stage) Awaiting (from .bus) m p (from .rest .now) (from .out .now) _ _ m p (line .before .before .enum-told .given .1)
+    at-stage (wantedBy (from .wanted)) (from .stage) Awaiting (from .bus) m p (from .rest .now) (from .out .now) _ _ m p
+    (line .before .before .enum-told .given .1)
     (line .take-setup .ensures .0 m p, (line .take-setup .ensures .1 m p, awaiting-keeps (wantedBy (from .wanted)) (from .bus) (from .rest .now) m p))
 
 same-length-2 : tie.Need-same-length-2
@@ -78,7 +79,10 @@ returns-3 c =
     let p = from .ports .now in
     at-stage (wantedBy (from .wanted)) (from .stage) Ended (from .bus) m p (from .rest .now) (from .out .now) _ _ m p (c .before .enum-told3 .given .1) (
       c .pass-line .ensures (wantedBy (from .wanted)) m p,
-      (ended-silent (wantedBy (from .wanted)) (from .bus) m p (from .rest .now) (from .out .now), ended-keeps (wantedBy (from .wanted)) (from .bus) (from .rest .now) m p),
+      (
+        ended-silent (wantedBy (from .wanted)) (from .bus) m p (from .rest .now) (from .out .now),
+        ended-keeps (wantedBy (from .wanted)) (from .bus) (from .rest .now) m p,
+      ),
     )
 
 pub take-line-spec : {M : Type 1} → statement M

@@ -74,7 +74,8 @@ returns c =
     (line .before .line-end .ensures) (line .if1 .taken) (read .setup-line .result) (given .set-up .result) _ _ (read .setup-line .ensures)
     (given .set-up .ensures)
     (put .put-reply .ensures .0 ∙ ap (λ a. length (replyAs (wantedBy (from .args .wanted)) a)) (put .before .before .setup-answer .ensures))
-    (put .put-reply .ensures .1 ∙ ap (λ a. sets (from .args .out .now) 0 (replyAs (wantedBy (from .args .wanted)) a)) (put .before .before .setup-answer .ensures)))
+    (put .put-reply .ensures .1
+    ∙ ap (λ a. sets (from .args .out .now) 0 (replyAs (wantedBy (from .args .wanted)) a)) (put .before .before .setup-answer .ensures)))
 
 returns-2 : tie.Need-returns-2
 returns-2 c =
