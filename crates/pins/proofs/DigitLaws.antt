@@ -7,9 +7,9 @@ use native.Mathlib.Omega.{arith}
 use lib.Dec.{eqb}
 use lib.ListN.{length, set, length-append}
 use lib.Seq.{sets}
-use borrow.Author.Tests.{ne-eqb, le-leb}
+use borrow.Author.Tests.{ne-eqb, le-leb, lt-leb}
 use Rattle.words.proofs.BelowLaws.{list-below-long}
-use Rattle.words.proofs.PartLaws.{sets-append}
+use Rattle.words.proofs.PartLaws.{sets-append, put-front}
 use Rattle.phases.specs.Kind as Kind
 use Rattle.bus.specs.Refusal.{accepted}
 use Rattle.judgement.specs.declared.event.Event.{Event}
@@ -18,6 +18,7 @@ use Rattle.text.specs.Newlines.{newline}
 use Rattle.pins.specs.Moments.{isSplit, hasStrobe, momentsOf}
 use Rattle.pins.specs.Picture.{fourBits, levelDigits, pictureDigits, levelsOf, drivenOf, pictureOf}
 use Rattle.pins.specs.Picture.{pictureLine, pictureLength, mostPictured, picturesOf, linesFor, pictured, bytesPictured}
+use Rattle.pins.specs.Promises.{PicturesInPlace}
 use Rattle.pins.specs.declared.moments.Moment.{Moment}
 
 pub four-bits-small : (a b c d : Bool) → fourBits a b c d < 16
@@ -138,3 +139,10 @@ pictures-fit event answer = all .fits
 pub pictured-fits : (event : Event) (answer : Answer) (place : List ℕ) → mostPictured ≤ length place
     → (bytesPictured event answer place ≡ length (picturesOf event answer)) × (pictured event answer place ≡ sets place 0 (picturesOf event answer))
 pictured-fits event answer place room = rw (le-leb mostPictured (length place) room) (refl, refl)
+
+pub pictures-in-place : PicturesInPlace
+pictures-in-place event answer place = (
+  λ room.
+      rw (pictured-fits event answer place room .1) (put-front place (picturesOf event answer) (omega (arith, room, pictures-fit event answer))),
+  λ short. rw (lt-leb mostPictured (length place) short) refl,
+)

@@ -22,7 +22,7 @@ use Rattle.text.specs.Newlines.{newline}
 use Rattle.text.specs.Promises.{FirstWrong}
 use Rattle.pins.specs.BusLine.{isDriven}
 use Rattle.pins.specs.Pin.{pinAt, isHigh}
-use Rattle.pins.specs.Picture.{pictureOf, pictureLine, picturesOf}
+use Rattle.pins.specs.Picture.{pictureOf, pictureLine, picturesOf, pictured}
 use Rattle.pins.specs.ReadAgain.{highOn, drivenOn, pictureIn}
 use Rattle.pins.specs.declared.moments.Moment.{Moment}
 
@@ -31,6 +31,16 @@ use Rattle.pins.specs.declared.moments.Moment.{Moment}
 -- Fifty digits, and with its newline fifty-one bytes.
 abbrev pub FiftyDigits : Type 0
 FiftyDigits = (m : Moment) → (isDigits 50 (pictureOf m) ≡ true) × (length (pictureLine m) ≡ 51)
+
+-- What is lent to be written to holds the lines at its front, whatever stood there, and behind them every byte as it was. One without room for two
+-- lines is left alone.
+abbrev pub PicturesInPlace : Type 0
+PicturesInPlace =
+    (event : Event) (answer : Answer) (place : List ℕ)
+    → (102 ≤ length place
+    → (take (length (picturesOf event answer)) (pictured event answer place) ≡ picturesOf event answer)
+    × (drop (length (picturesOf event answer)) (pictured event answer place) ≡ drop (length (picturesOf event answer)) place))
+    × (length place < 102 → pictured event answer place ≡ place)
 
 -- Where a pin is found on any fifty digits, by its number: the first twenty-five are levels, and the other twenty-five say what is driven; read as one
 -- number of a hundred places, either half has pin 1 in the top place and pin 100 in the lowest.

@@ -1,6 +1,2 @@
--- The laws that the proofs of pictures cite.
-pub mod FiveLaws
-pub mod KindLaws
-pub mod SplitLaws
-pub mod LevelLaws
-pub mod StillLaws
+-- The laws that the proofs of the answer line cite.
+pub mod LineLaws

@@ -1,11 +1,5 @@
-// The answer line and the lines of a picture, written.
-mod driven;
-mod levels;
-mod moments;
-mod pictures;
-mod pin_digits;
+// The answer line, written.
 mod printing;
-mod still;
 
-pub use pictures::put_pictures;
+pub use printing::digit;
 pub use printing::put_answer;

@@ -1,15 +1,24 @@
 // The answer line, each digit put where it stays.
-ghost use mathlib.Core.List.{_++_};
+ghost use mathlib.Core.List.{[], _∷_, _++_};
 ghost use mathlib.Core.Path.{_≡_};
-ghost use Prim.Native.Nat.{_+_, _≤_, _%_};
+ghost use Prim.Native.Nat.{_-_, _%_};
 ghost use lib.ListN.{length};
-ghost use lib.Seq.{sets};
 ghost use Rattle.words.specs.Parts.{placeOf};
 ghost use Rattle.text.specs.Digits.{digitOf, digitsOf};
+ghost use Rattle.text.specs.Newlines.{newline};
 ghost use Rattle.text.specs.AnswerLine.{answerWidths, answerLength, bytesPut, printed};
 use events::Answer;
 use text::NEWLINE;
 use text::answer_line::*;
+
+// Where fields begin in the line's second part, which begins with the signals.
+const STATUS_IN: usize = STATUS_AT - SIGNALS_AT;
+
+const CYCLES_IN: usize = CYCLES_AT - SIGNALS_AT;
+
+const DATUM_IN: usize = DATUM_AT - SIGNALS_AT;
+
+const NEWLINE_IN: usize = NEWLINE_AT - SIGNALS_AT;
 
 // At the front of a place that is long enough; a shorter one is left alone. The bytes put.
 pub fn put_answer(answer: Answer, out: &mut [u8]) -> usize
@@ -17,10 +26,20 @@ pub fn put_answer(answer: Answer, out: &mut [u8]) -> usize
     ensures left { λ _. ⌜ now (out .exit) ≡ printed answer (now (out .entry)) ⌝ }
 {
     if ANSWER_LENGTH <= out.len() {
-        put_standing(answer, out);
-        put_cycle(answer, out);
-        put_four(out, DATUM_AT, answer.datum);
-        out[NEWLINE_AT] = NEWLINE;
+        put_standing(
+            &mut out[REFUSAL_AT..SIGNALS_AT],
+            answer.refusal,
+            answer.phase,
+            answer.granted,
+            answer.lines,
+        );
+        put_cycle(
+            &mut out[SIGNALS_AT..ANSWER_LENGTH],
+            answer.signals,
+            answer.status,
+            answer.cycles,
+            answer.datum,
+        );
         ANSWER_LENGTH
     } else {
         0
@@ -34,39 +53,37 @@ pub fn digit(n: u8) -> u8
     n % 16 + 0x30 + n % 16 / 10 * 7
 }
 
-fn put_two(out: &mut [u8], at: usize, b: u8)
-    requires { ⌜ at + 2 ≤ length (now out) ⌝ }
-    ensures { λ _. ⌜ now (out .exit) ≡ sets (now (out .entry)) at (digitsOf 2 b) ⌝ }
+// The line's first part: how the bus stands. It is lent that part, and each of its bytes is stored here.
+fn put_standing(part: &mut [u8], refusal: u8, phase: u8, granted: u8, lines: u8)
+    requires { ⌜ length (now part) ≡ placeOf 4 answerWidths ⌝ }
+    ensures { λ _. ⌜ now (part .exit) ≡ digitsOf 2 refusal ++ digitsOf 2 phase ++ digitsOf 2 granted ++ digitsOf 2 lines ⌝ }
 {
-    out[at] = digit(b / 16);
-    out[at + 1] = digit(b);
+    part[REFUSAL_AT] = digit(refusal / 16);
+    part[REFUSAL_AT + 1] = digit(refusal);
+    part[PHASE_AT] = digit(phase / 16);
+    part[PHASE_AT + 1] = digit(phase);
+    part[GRANTED_AT] = digit(granted / 16);
+    part[GRANTED_AT + 1] = digit(granted);
+    part[LINES_AT] = digit(lines / 16);
+    part[LINES_AT + 1] = digit(lines);
 }
 
-fn put_four(out: &mut [u8], at: usize, n: u16)
-    requires { ⌜ at + 4 ≤ length (now out) ⌝ }
-    ensures { λ _. ⌜ now (out .exit) ≡ sets (now (out .entry)) at (digitsOf 4 n) ⌝ }
+// The rest of it: what was on the bus besides, and the newline.
+fn put_cycle(part: &mut [u8], signals: u8, status: u8, cycles: u8, datum: u16)
+    requires { ⌜ length (now part) ≡ answerLength - placeOf 4 answerWidths ⌝ }
+    ensures { λ _. ⌜ now (part .exit) ≡ digitsOf 2 signals ++ digitsOf 2 status ++ digitsOf 2 cycles ++ digitsOf 4 datum ++ newline ∷ [] ⌝ }
 {
-    put_two(out, at, (n / 256) as u8);
-    put_two(out, at + 2, (n % 256) as u8);
-}
-
-fn put_standing(answer: Answer, out: &mut [u8])
-    requires { ⌜ answerLength ≤ length (now out) ⌝ }
-    ensures { λ _. ⌜ now (out .exit) ≡ sets (now (out .entry)) (placeOf 0 answerWidths)
-        (digitsOf 2 (answer .refusal) ++ digitsOf 2 (answer .phase) ++ digitsOf 2 (answer .granted) ++ digitsOf 2 (answer .lines)) ⌝ }
-{
-    put_two(out, REFUSAL_AT, answer.refusal);
-    put_two(out, PHASE_AT, answer.phase);
-    put_two(out, GRANTED_AT, answer.granted);
-    put_two(out, LINES_AT, answer.lines);
-}
-
-fn put_cycle(answer: Answer, out: &mut [u8])
-    requires { ⌜ answerLength ≤ length (now out) ⌝ }
-    ensures { λ _. ⌜ now (out .exit) ≡ sets (now (out .entry)) (placeOf 4 answerWidths)
-        (digitsOf 2 (answer .signals) ++ digitsOf 2 (answer .status) ++ digitsOf 2 (answer .cycles)) ⌝ }
-{
-    put_two(out, SIGNALS_AT, answer.signals);
-    put_two(out, STATUS_AT, answer.status);
-    put_two(out, CYCLES_AT, answer.cycles);
+    let high = (datum / 256) as u8;
+    let low = (datum % 256) as u8;
+    part[0] = digit(signals / 16);
+    part[1] = digit(signals);
+    part[STATUS_IN] = digit(status / 16);
+    part[STATUS_IN + 1] = digit(status);
+    part[CYCLES_IN] = digit(cycles / 16);
+    part[CYCLES_IN + 1] = digit(cycles);
+    part[DATUM_IN] = digit(high / 16);
+    part[DATUM_IN + 1] = digit(high);
+    part[DATUM_IN + 2] = digit(low / 16);
+    part[DATUM_IN + 3] = digit(low);
+    part[NEWLINE_IN] = NEWLINE;
 }

@@ -7,6 +7,7 @@ use feeding::finish;
 use feeding::fresh;
 use feeding::has_room;
 use libc::STDOUT_FILENO;
+use session::Fed;
 use session::Session;
 use session::Stage;
 
@@ -31,8 +32,9 @@ struct Filled {
 pub fn run(wanted: u8, input: i32)
     ensures { λ r. ⌜ r ≡ tt ⌝ }
 {
+    // With shorter ones there are more calls of the system, which shows in the time (docs/BENCH.md); no shorter text would do than 22 bytes.
     let mut text = [0u8; 32768];
-    let mut out = io::large_buffer();
+    let mut out = [0u8; 40960];
     let mut memory = [0u8; 65536];
     let mut ports = [0u8; 256];
     take_turns(wanted, input, &mut text, &mut out, &mut memory, &mut ports);
@@ -78,18 +80,32 @@ fn take_turn(
     memory: &mut [u8],
     ports: &mut [u8],
 ) -> Turn {
-    let fed = feed(wanted, session, text, filled.size, out, memory, ports);
+    let fed = take_filled(wanted, session, filled, text, out, memory, ports);
     let is_written = write_front(out, fed.written);
     let next = fed.session;
     let stage = next.stage;
-    let is_over = filled.failed | !is_written | has_ended(stage);
-    let is_last = filled.ended & !is_over;
-    last(wanted, is_last, next, fed.held, text, out, memory, ports);
     Turn {
-        goes_on: !is_over & !filled.ended,
+        goes_on: is_written & !filled.failed & !filled.ended & !has_ended(stage),
         reads: has_room(wanted, out, fed.written),
         session: next,
         held: fed.held,
+    }
+}
+
+// Once the input has ended nothing complete is held, and what is held is the unended last line.
+fn take_filled(
+    wanted: u8,
+    session: Session,
+    filled: Filled,
+    text: &mut [u8],
+    out: &mut [u8],
+    memory: &mut [u8],
+    ports: &mut [u8],
+) -> Fed {
+    if filled.ended {
+        finish(wanted, session, text, filled.size, out, memory, ports)
+    } else {
+        feed(wanted, session, text, filled.size, out, memory, ports)
     }
 }
 
@@ -99,24 +115,6 @@ fn has_ended(stage: Stage) -> bool {
         Stage::Running => false,
         Stage::Ended => true,
     }
-}
-
-// Where the input has ended, the unended last line.
-fn last(
-    wanted: u8,
-    is_last: bool,
-    session: Session,
-    held: usize,
-    text: &mut [u8],
-    out: &mut [u8],
-    memory: &mut [u8],
-    ports: &mut [u8],
-) {
-    if !is_last {
-        return;
-    }
-    let fed = finish(wanted, session, text, held, out, memory, ports);
-    write_front(out, fed.written);
 }
 
 fn fill(input: i32, text: &mut [u8], held: usize, reads: bool) -> Filled
@@ -155,8 +153,21 @@ fn read_behind(input: i32, text: &mut [u8], held: usize) -> Filled
 
 fn write_front(out: &[u8], written: usize) -> bool {
     if written <= out.len() {
-        io::write_all(STDOUT_FILENO, &out[..written])
+        write_all(&out[..written])
     } else {
         false
     }
+}
+
+// What one call of the system leaves is written from where it stands: `io::write_all` would copy it into a place of its own.
+fn write_all(bytes: &[u8]) -> bool {
+    let mut rest = bytes;
+    while 0 < rest.len() {
+        let size = io::count(libc::write(STDOUT_FILENO, rest), rest);
+        if size == 0 {
+            return false;
+        }
+        rest = &rest[size..];
+    }
+    true
 }

@@ -5,8 +5,8 @@ use crate::answer_layout::ANSWER_SIZE;
 use crate::answer_layout::answer_in;
 use bus::numbers::*;
 use judgement::Event;
+use picturing::put_pictures;
 use pins::sizes::MOST_PICTURED;
-use printing::put_pictures;
 use reading::picture_line;
 
 // Where each part of what is seen stands.

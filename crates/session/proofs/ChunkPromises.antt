@@ -7,9 +7,10 @@ use Prim.Native.Nat.{ℕ, zero, suc, _+_, _-_, _<_, _≤_}
 use native.Mathlib.Omega.{arith}
 use lib.Dec.{eqb, ltb}
 use lib.ListN.{length, getD, take, drop, set, length-append, length-drop}
-use lib.Seq.{sets, sets-eq, take-append-seam, take-suc-set, getD-take, length-take-le}
+use lib.Seq.{take-append-seam, take-suc-set, getD-take, length-take-le}
 use borrow.Author.Tests.{eq-eqb, ne-eqb, leb-true, le-leb, lt-ltb, le-ltb}
 use Rattle.words.proofs.TestLaws.{true-or-false}
+use Rattle.words.proofs.PartLaws.{put-front}
 use Rattle.bus.specs.Refusal as Refusal
 use Rattle.text.specs.Newlines.{newline, hasNewline, firstLine, restOf, textLines}
 use Rattle.text.specs.Frames.{setupIn}
@@ -27,6 +28,7 @@ use Rattle.session.specs.Promises.{
   CallsGoOn,
   CallsAnswer,
   FedInPlace,
+  OnlyFrontWritten,
   FeedRefused,
   FinishRefused,
   NothingToEnd,
@@ -55,18 +57,24 @@ said-fits wanted size w text = taken-fits World (answering wanted) (says-at-most
 
 -- ---- In place
 
--- what was put at the front stands there
-put-front : (out bytes : List ℕ) → length bytes ≤ length out → take (length bytes) (sets out 0 bytes) ≡ bytes
-put-front out bytes h =
-    ap (take (length bytes)) (sets-eq bytes out 0 (omega (arith, h))) ∙ take-append-seam bytes (drop (0 + length bytes) out)
-
 pub fed-in-place : FedInPlace
 fed-in-place wanted w text filled out given =
     let t = takes wanted (length out) w (take filled text) in
     rw (eq-eqb (feedRefusal (w .session .bus) (w .memory) (w .ports) text filled) Refusal.accepted given) (
-      put-front out (t .said) (said-fits wanted (length out) w (take filled text)),
+      put-front out (t .said) (said-fits wanted (length out) w (take filled text)) .0,
       (take-append-seam (heldOf (t .rest)) (drop (length (heldOf (t .rest))) text), refl),
     )
+
+pub only-front-written : OnlyFrontWritten
+only-front-written wanted w text filled out =
+    ⊎-elim
+    (λ yes. rw yes (
+      put-front out (takes wanted (length out) w (take filled text) .said) (said-fits wanted (length out) w (take filled text)) .1,
+      put-front out (takesLast wanted (length out) w text filled .said)
+          (said-fits wanted (length out) w (take (endedAt text filled) (endedText text filled))) .1,
+    ))
+    (λ no. rw no (refl, refl))
+    (true-or-false (eqb (feedRefusal (w .session .bus) (w .memory) (w .ports) text filled) Refusal.accepted))
 
 -- ---- A call goes on
 
@@ -194,7 +202,7 @@ finished-said wanted w (b ∷ text) (suc k) size within none room =
 pub finished-in-place : FinishedInPlace
 finished-in-place wanted w text held out given within none room =
     rw (eq-eqb (feedRefusal (w .session .bus) (w .memory) (w .ports) text held) Refusal.accepted given) (
-    put-front out (takesLast wanted (length out) w text held .said) (said-fits wanted (length out) w (take (endedAt text held) (endedText text held)))
+    put-front out (takesLast wanted (length out) w text held .said) (said-fits wanted (length out) w (take (endedAt text held) (endedText text held))) .0
     ∙ finished-said wanted w text held (length out) within none room)
 
 -- ---- A whole run

@@ -5,7 +5,7 @@ use mathlib.Core.Logic.{_⊎_, _↔_}
 use mathlib.Core.Bool.{true, false, cond, _&&_}
 use mathlib.Core.List.{List, [], _∷_, _++_}
 use lib.Dec.{eqb}
-use lib.ListN.{length, getD, take, replicate}
+use lib.ListN.{length, getD, take, drop, replicate}
 use Rattle.words.specs.Among.{isAmong}
 use Rattle.bus.specs.Refusal as Refusal
 use Rattle.bus.specs.Sense.{makesSense}
@@ -225,6 +225,14 @@ FedInPlace =
     → (take (fedOf wanted w text filled out .written) (outLeft wanted w text filled out) ≡ takes wanted (length out) w (take filled text) .said)
     × ((take (fedOf wanted w text filled out .held) (textLeft wanted w text filled out) ≡ heldOf (takes wanted (length out) w (take filled text) .rest))
     × (worldLeft wanted w text filled out ≡ takes wanted (length out) w (take filled text) .state))
+
+-- Behind what a call writes `out` is as it was, at the end of the input too.
+abbrev pub OnlyFrontWritten : Type 0
+OnlyFrontWritten =
+    (wanted : Wanted) (w : World) (text : List ℕ) (filled : ℕ) (out : List ℕ)
+    → (drop (fedOf wanted w text filled out .written) (outLeft wanted w text filled out) ≡ drop (fedOf wanted w text filled out .written) out)
+    × (drop (finishedOf wanted w text filled out .written) (finishedOut wanted w text filled out)
+    ≡ drop (finishedOf wanted w text filled out .written) out)
 
 -- A call that is given more text than there is, buffers of wrong lengths or a senseless bus says so, in this order, and does nothing: all text
 -- stays held, and nothing is written.

@@ -7,7 +7,7 @@ use Prim.Native.Nat.{ℕ, zero, suc, _+_, _*_, _-_, _/_, _%_, _^_, _<_, _≤_}
 use native.Mathlib.Omega.{arith}
 use lib.Dec.{eqb, leb, ltb}
 use lib.ListN.{length, getD, take, drop, set, length-append, length-drop}
-use lib.Seq.{drop-cons, getD-drop, take-suc, take-suc-set, sets}
+use lib.Seq.{drop-cons, getD-drop, take-suc, take-suc-set}
 use borrow.Author.Tests.{ltb-true, ltb-false, leb-true, leb-false, le-leb, lt-leb}
 use Rattle.words.specs.Below.{allBelow}
 use Rattle.words.specs.Among.{everyListed}
@@ -15,7 +15,6 @@ use Rattle.words.specs.Parts.{Sized}
 use Rattle.words.proofs.BelowLaws.{same-tests-below}
 use Rattle.words.proofs.TestLaws.{true-or-false, either-of, neither-of, then-pick, else-pick, both-of}
 use Rattle.words.proofs.ListLaws.{every-at}
-use Rattle.words.proofs.PartLaws.{sets-append}
 use Rattle.text.specs.Digits.{isDigit, valueOf, digitOf, numberAfter, numberOf, digitsOf, inDigits}
 use Rattle.text.specs.Frames.{digitsFrom}
 
@@ -126,33 +125,6 @@ digits-sized (field ∷ fields) a = (digits-long (field .0) (field .1 a), digits
 -- where a byte is no digit, not all are
 pub not-all : (line : List ℕ) (i : ℕ) → i < length line → isDigit (getD line i 0) ≡ false → false ≡ everyListed isDigit line
 not-all line i h e = ⊎-elim (λ all. absurd (false≢true (sym e ∙ every-at isDigit line all i h))) (λ none. sym none) (true-or-false (everyListed isDigit line))
-
--- two stores put the digits of a byte
-pub two-put : (place : List ℕ) (at b high low : ℕ) → high ≡ digitOf (b / 16 % 16) → low ≡ digitOf (b % 16)
-    → set (set place at high) (at + 1) low ≡ sets place at (digitsOf 2 b)
-unfolding digitsOf
-two-put place at b high low h l =
-    let one : at + 1 ≡ suc at = omega arith in
-    ap (λ (k : ℕ). set (set place at high) k low) one ∙ rw (h, l) refl
-
--- four digits are two and two
-halves-put : (datum : ℕ) → digitsOf 2 (datum / 256) ++ digitsOf 2 (datum % 256) ≡ digitsOf 4 datum
-unfolding digitsOf
-halves-put datum =
-    let a : datum / 256 / 16 % 16 ≡ datum / 16 / 16 / 16 % 16 = omega arith in
-    let b : datum / 256 % 16 ≡ datum / 16 / 16 % 16 = omega arith in
-    let c : datum % 256 / 16 % 16 ≡ datum / 16 % 16 = omega arith in
-    let d : datum % 256 % 16 ≡ datum % 16 = omega arith in
-    rw (a, b, c, d) refl
-
--- so two numbers of two digits, put one behind the other, are one of four
-pub four-put : (place : List ℕ) (at n : ℕ)
-    → sets (sets place at (digitsOf 2 (n / 256))) (at + 2) (digitsOf 2 (n % 256)) ≡ sets place at (digitsOf 4 n)
-four-put place at n =
-    let high = digitsOf 2 (n / 256) in
-    ap (λ (k : ℕ). sets (sets place at high) (at + k) (digitsOf 2 (n % 256))) (sym (digits-long 2 (n / 256)))
-    ∙ sym (sets-append high (digitsOf 2 (n % 256)) place at)
-    ∙ ap (sets place at) (halves-put n)
 
 -- digits from a place on, one by one
 pub page-next : (line pages : List ℕ) (at i : ℕ) → i < length pages → at + i < length line → take i pages ≡ map valueOf (digitsFrom at i line)

@@ -13,14 +13,14 @@ use lib.Pow.{pow-add}
 use borrow.Author.Tests.{leb-true, leb-false, le-leb, lt-leb, eq-eqb}
 use Rattle.words.specs.Among.{everyListed}
 use Rattle.words.specs.Parts.{total, laidOut, nthPart}
-use Rattle.words.proofs.PartLaws.{laid-long}
+use Rattle.words.proofs.PartLaws.{laid-long, put-front}
 use Rattle.words.proofs.ListLaws.{every-at, every-of}
 use Rattle.bus.specs.declared.state.Chassis.{Chassis}
 use Rattle.judgement.specs.Table.{eventOf}
 use Rattle.judgement.specs.declared.event.Event.{Event}
 use Rattle.text.specs.Digits.{isDigit, valueOf, digitOf, numberAfter, numberOf, digitsOf, inDigits, isDigits}
 use Rattle.text.specs.Frames.{eventDigits, eventIn, setupWidths, setupDigits}
-use Rattle.text.specs.AnswerLine.{answerFields, answerParts, answerWidths, answerDigits, answerLine}
+use Rattle.text.specs.AnswerLine.{answerFields, answerParts, answerWidths, answerDigits, answerLine, answerLength}
 use Rattle.text.specs.Promises.{
   eventLine,
   setupLine,
@@ -30,11 +30,12 @@ use Rattle.text.specs.Promises.{
   EventReadsBack,
   SetupReadsBack,
   AnswerReadsBack,
+  AnswerInPlace,
   EventFits,
 }
 use Rattle.events.specs.declared.answers.Answer.{Answer}
 use Rattle.text.proofs.DigitLaws.{digit-kinds, value-small, digits-long, digits-sized}
-use Rattle.text.proofs.ReadingLaws.{answer-long}
+use Rattle.text.proofs.ReadingLaws.{answer-long, printed-fits}
 
 -- ---- One digit
 
@@ -251,4 +252,13 @@ answer-reads-back a = (
         numbers-back 2 (a .cycles) (fits .cycles),
         numbers-back 4 (a .datum) (fits .datum),
       ) refl,
+)
+
+pub answer-in-place : AnswerInPlace
+answer-in-place a place = (
+  λ room.
+      let long = answer-long a in
+      let put = put-front place (answerLine a) (omega (arith, room, long)) in
+      rw (printed-fits a place room) (rw long at (put .0), rw long at (put .1)),
+  λ short. rw (lt-leb answerLength (length place) short) refl,
 )

@@ -4,7 +4,7 @@ use mathlib.Core.Path.{_≡_}
 use mathlib.Core.Logic.{_⊎_, _↔_}
 use mathlib.Core.Bool.{true, false}
 use mathlib.Core.List.{List, _∷_, _++_, map}
-use lib.ListN.{length, getD, take}
+use lib.ListN.{length, getD, take, drop}
 use Rattle.bus.specs.Refusal.{accepted}
 use Rattle.bus.specs.declared.state.Chassis.{Chassis}
 use Rattle.judgement.specs.declared.event.Event.{Event}
@@ -13,7 +13,7 @@ use Rattle.text.specs.Digits.{isDigit, valueOf, digitOf, numberOf, digit
 use Rattle.text.specs.Faults.{fault, faultOf}
 use Rattle.text.specs.Newlines.{newline, hasNewline, firstLine, restOf, lastLine, textLines}
 use Rattle.text.specs.Frames.{digitsFrom, eventDigits, eventIn, nextLine, lineNumber, lineColumn, lineBytes, setupIn, longest}
-use Rattle.text.specs.AnswerLine.{answerDigits, answerLine, answerLength}
+use Rattle.text.specs.AnswerLine.{answerDigits, answerLine, answerLength, printed}
 use Rattle.text.specs.Reading.{Reader, answersTo, takenWithin, takenOff, heldOf}
 use Rattle.text.specs.Chunks.{begunIn, fedAll, wholeText}
 
@@ -122,6 +122,14 @@ abbrev pub AnswerReadsBack : Type 0
 AnswerReadsBack =
     (a : Answer)
     → ((isDigits 18 (answerDigits a) ≡ true) × (length (answerLine a) ≡ answerLength)) × (AnswerFits a → answerOnLine (answerLine a) ≡ a)
+
+-- What is lent to be written to holds the line in its first nineteen bytes, whatever stood there, and behind them every byte as it was. One with
+-- fewer bytes is left alone.
+abbrev pub AnswerInPlace : Type 0
+AnswerInPlace =
+    (a : Answer) (place : List ℕ)
+    → (19 ≤ length place → (take 19 (printed a place) ≡ answerLine a) × (drop 19 (printed a place) ≡ drop 19 place))
+    × (length place < 19 → printed a place ≡ place)
 
 -- ---- Lines
 

@@ -1,10 +1,11 @@
 -- The laws of parts laid one behind the other: how long they are together, that they are found again, and that they may be put one by one.
 use mathlib.Core.Path.{_≡_, refl, sym, ap, ap₂, _∙_}
 use mathlib.Core.List.{List, [], _∷_, _++_, append-nil, append-assoc}
-use Prim.Native.Nat.{ℕ, suc, _+_, _≤_}
+use Prim.Native.Nat.{ℕ, suc, _+_, _-_, _≤_}
 use native.Mathlib.Omega.{arith}
+use borrow.Rule.Slice.PartMut.{putMid, post-is}
 use lib.ListN.{length, take, drop, set, length-append, length-drop, take-append-drop}
-use lib.Seq.{sets, sets-eq, drop-length, take-at, drop-at, drop-drop}
+use lib.Seq.{sets, sets-eq, length-sets, drop-length, take-at, drop-at, drop-drop}
 use Rattle.words.specs.Parts.{Part, widthsOf, total, partsOf, laid, laidOut, cutFrom, cut, putFrom, Sized}
 
 -- ---- Writing behind what was written
@@ -28,6 +29,36 @@ sets-all l bytes e =
     ∙ ap (λ (k : ℕ). bytes ++ drop k l) whole
     ∙ ap (λ (k : List ℕ). bytes ++ k) (drop-length l)
     ∙ append-nil bytes
+
+-- what is put at the front is there, and what is behind it is as it was
+pub put-front : (place bytes : List ℕ) → length bytes ≤ length place
+    → (take (length bytes) (sets place 0 bytes) ≡ bytes) × (drop (length bytes) (sets place 0 bytes) ≡ drop (length bytes) place)
+put-front place bytes room =
+    let whole : 0 + length bytes ≡ length bytes = omega arith in
+    let parts = sets-eq bytes place 0 (omega (arith, room)) ∙ ap (λ (k : ℕ). bytes ++ drop k place) whole in (
+      ap (take (length bytes)) parts ∙ take-at bytes (drop (length bytes) place) (length bytes) refl,
+      ap (drop (length bytes)) parts ∙ drop-at bytes (drop (length bytes) place) (length bytes) refl,
+    )
+
+-- a part that was lent, filled from end to end, is put at its place
+part-put : (place part : List ℕ) (at end : ℕ) → at ≤ end → end ≤ length place → length part ≡ end - at
+    → putMid at (end - at) place part ≡ sets place at part
+part-put place part at end ordered within long =
+    let behind : end ≡ at + length part = omega (arith, ordered, long) in
+    ap (λ (l : List ℕ). take at place ++ (part ++ l)) (post-is at end place ordered)
+    ∙ sym (append-assoc (take at place) part (drop end place))
+    ∙ ap (λ (k : ℕ). take at place ++ part ++ drop k place) behind
+    ∙ sym (sets-eq part place at (omega (arith, within, behind)))
+
+-- behind what fills the front, the next part
+pub filled-next : (place place' front part : List ℕ) (at end : ℕ) → place' ≡ sets place 0 front → length front ≡ at → at ≤ end → end ≤ length place
+    → length part ≡ end - at → putMid at (end - at) place' part ≡ sets place 0 (front ++ part)
+filled-next place place' front part at end so here ordered within long =
+    let next : at ≡ 0 + length front = omega (arith, here) in
+    part-put place' part at end ordered (omega (arith, within, ap length so, length-sets place 0 front)) long
+    ∙ ap (λ (l : List ℕ). sets l at part) so
+    ∙ ap (λ (k : ℕ). sets (sets place 0 front) k part) next
+    ∙ sym (sets-append front part place 0)
 
 -- ---- Parts
 

@@ -1,57 +1,79 @@
--- Four fields, each behind the one before.
+-- Eight stores over the whole part.
 use Prim.Native.Nat.{ℕ}
-use mathlib.Core.Path.{ap, _∙_}
-use mathlib.Core.List.{List}
+use mathlib.Core.Path.{sym, ap₂, _∙_}
+use mathlib.Core.List.{List, [], _∷_, _++_}
+use native.Mathlib.Omega.{arith}
 use borrow.Author.Needs.{needs}
-use lib.Seq.{sets}
-use Rattle.words.specs.Parts.{placeOf}
-use Rattle.text.specs.Digits.{digitsOf}
-use Rattle.text.specs.AnswerLine.{answerWidths}
+use lib.ListN.{length-set}
+use lib.Seq.{length-sets}
+use Rattle.words.proofs.PartLaws.{sets-all}
+use Rattle.printing.proofs.LineLaws.{two-found}
 use Rattle.printing.proofs.printing.put_standing.Statement.{statement}
 use Rattle.printing.proofs.printing.put_standing.Tie as tie
 
-put-two-requires : tie.Need-put-two-requires
-put-two-requires c κs = search needs
+-- ---- Places: with each field's digits found
 
-put-two-requires-2 : tie.Need-put-two-requires-2
-put-two-requires-2 c κs = search needs
+abbrev at-granted : tie.After-digit8 → tie.After-digit6
+at-granted c = c .before .before
 
-put-two-requires-3 : tie.Need-put-two-requires-3
-put-two-requires-3 c κs = search needs
+abbrev at-phase : tie.After-digit8 → tie.After-digit4
+at-phase c = at-granted c .before .before
 
-put-two-requires-4 : tie.Need-put-two-requires-4
-put-two-requires-4 c κs = search needs
+abbrev at-refusal : tie.After-digit8 → tie.After-digit2
+at-refusal c = at-phase c .before .before
+
+abbrev start : tie.After-digit8 → tie.Start
+start c = at-refusal c .before .before .before
+
+abbrev stored : tie.After-digit8 → List ℕ
+stored c =
+    at-refusal c .before .digit .result
+    ∷ at-refusal c .digit2 .result
+    ∷ at-phase c .before .digit3 .result
+    ∷ at-phase c .digit4 .result
+    ∷ at-granted c .before .digit5 .result
+    ∷ at-granted c .digit6 .result
+    ∷ c .before .digit7 .result
+    ∷ c .digit8 .result
+    ∷ []
+
+-- ---- Needs
 
 same-length : tie.Need-same-length
-same-length c = search needs
-
--- with each field put
-abbrev at-lines : tie.After-slice-known5 → tie.After-put-two4
-at-lines c = c .before .before
-
-abbrev at-granted : tie.After-slice-known5 → tie.After-put-two3
-at-granted c = at-lines c .before .before .before .before
-
-abbrev at-phase : tie.After-slice-known5 → tie.After-put-two2
-at-phase c = at-granted c .before .before .before .before
-
-abbrev at-refusal : tie.After-slice-known5 → tie.After-put-two
-at-refusal c = at-phase c .before .before .before .before
-
--- a field put at its place
-abbrev put : ℕ → ℕ → List ℕ → List ℕ
-put n number place = sets place (placeOf n answerWidths) (digitsOf 2 number)
+same-length c = length-sets (start c .args .part .now) 0 (stored c)
 
 returns : tie.Need-returns
-unfolding digitsOf
 returns c =
-    let answer = at-refusal c .before .before .before .args .answer in
-    at-lines c .put-two4 .ensures
-    ∙ ap (put 3 (answer .lines)) (
-    at-granted c .put-two3 .ensures
-    ∙ ap (put 2 (answer .granted)) (at-phase c .put-two2 .ensures ∙ ap (put 1 (answer .phase)) (at-refusal c .put-two .ensures)))
+    let given = start c .args in
+    let refusal = two-found (given .refusal) (at-refusal c .before .digit .ensures) (at-refusal c .digit2 .ensures) in
+    let phase = two-found (given .phase) (at-phase c .before .digit3 .ensures) (at-phase c .digit4 .ensures) in
+    let granted = two-found (given .granted) (at-granted c .before .digit5 .ensures) (at-granted c .digit6 .ensures) in
+    let lines = two-found (given .lines) (c .before .digit7 .ensures) (c .digit8 .ensures) in
+    sets-all (given .part .now) (stored c) (sym (start c .pre)) ∙ ap₂ _++_ (ap₂ _++_ (ap₂ _++_ refusal phase) granted) lines
 
 pub put-standing-spec : {M : Type 1} → statement M
 put-standing-spec =
     tie.close
-    (tie.spec put-two-requires put-two-requires-2 put-two-requires-3 put-two-requires-4 same-length returns)
+    (tie.spec
+    (λ c κs. search needs)
+    (λ c. search needs)
+    (λ c κs. search needs)
+    (λ c. search needs)
+    (λ c. search needs)
+    (λ c κs. search needs)
+    (λ c. search needs)
+    (λ c κs. search needs)
+    (λ c. search needs)
+    (λ c. search needs)
+    (λ c κs. search needs)
+    (λ c. simp length-set (omega arith))
+    (λ c κs. search needs)
+    (λ c. search needs)
+    (λ c. simp length-set (omega arith))
+    (λ c κs. search needs)
+    (λ c. simp length-set (omega arith))
+    (λ c κs. search needs)
+    (λ c. search needs)
+    (λ c. simp length-set (omega arith))
+    same-length
+    returns)
