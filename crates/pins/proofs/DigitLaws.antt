@@ -18,7 +18,7 @@ use Rattle.text.specs.Newlines.{newline}
 use Rattle.pins.specs.Moments.{isSplit, hasStrobe, momentsOf}
 use Rattle.pins.specs.Picture.{fourBits, levelDigits, pictureDigits, levelsOf, drivenOf, pictureOf}
 use Rattle.pins.specs.Picture.{pictureLine, pictureLength, mostPictured, picturesOf, linesFor, pictured, bytesPictured}
-use Rattle.pins.specs.Promises.{PicturesInPlace}
+use Rattle.pins.specs.Promises.{OnlyPicturesWritten}
 use Rattle.pins.specs.declared.moments.Moment.{Moment}
 
 pub four-bits-small : (a b c d : Bool) → fourBits a b c d < 16
@@ -140,8 +140,8 @@ pub pictured-fits : (event : Event) (answer : Answer) (place : List ℕ) → mos
     → (bytesPictured event answer place ≡ length (picturesOf event answer)) × (pictured event answer place ≡ sets place 0 (picturesOf event answer))
 pictured-fits event answer place room = rw (le-leb mostPictured (length place) room) (refl, refl)
 
-pub pictures-in-place : PicturesInPlace
-pictures-in-place event answer place = (
+pub only-pictures-written : OnlyPicturesWritten
+only-pictures-written event answer place = (
   λ room.
       rw (pictured-fits event answer place room .1) (put-front place (picturesOf event answer) (omega (arith, room, pictures-fit event answer))),
   λ short. rw (lt-leb mostPictured (length place) short) refl,

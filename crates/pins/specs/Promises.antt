@@ -34,8 +34,8 @@ FiftyDigits = (m : Moment) → (isDigits 50 (pictureOf m) ≡ true) × (length (
 
 -- What is lent to be written to holds the lines at its front, whatever stood there, and behind them every byte as it was. One without room for two
 -- lines is left alone.
-abbrev pub PicturesInPlace : Type 0
-PicturesInPlace =
+abbrev pub OnlyPicturesWritten : Type 0
+OnlyPicturesWritten =
     (event : Event) (answer : Answer) (place : List ℕ)
     → (102 ≤ length place
     → (take (length (picturesOf event answer)) (pictured event answer place) ≡ picturesOf event answer)

@@ -30,7 +30,7 @@ use Rattle.text.specs.Promises.{
   EventReadsBack,
   SetupReadsBack,
   AnswerReadsBack,
-  AnswerInPlace,
+  OnlyLineWritten,
   EventFits,
 }
 use Rattle.events.specs.declared.answers.Answer.{Answer}
@@ -254,8 +254,8 @@ answer-reads-back a = (
       ) refl,
 )
 
-pub answer-in-place : AnswerInPlace
-answer-in-place a place = (
+pub only-line-written : OnlyLineWritten
+only-line-written a place = (
   λ room.
       let long = answer-long a in
       let put = put-front place (answerLine a) (omega (arith, room, long)) in

@@ -125,8 +125,8 @@ AnswerReadsBack =
 
 -- What is lent to be written to holds the line in its first nineteen bytes, whatever stood there, and behind them every byte as it was. One with
 -- fewer bytes is left alone.
-abbrev pub AnswerInPlace : Type 0
-AnswerInPlace =
+abbrev pub OnlyLineWritten : Type 0
+OnlyLineWritten =
     (a : Answer) (place : List ℕ)
     → (19 ≤ length place → (take 19 (printed a place) ≡ answerLine a) × (drop 19 (printed a place) ≡ drop 19 place))
     × (length place < 19 → printed a place ≡ place)
