@@ -5,11 +5,11 @@ use mathlib.Core.List.{List, [], _∷_, _++_, append-nil}
 use Prim.Native.Nat.{ℕ, _+_, _%_, _<_, _≤_}
 use native.Mathlib.Omega.{arith}
 use lib.Dec.{eqb}
-use lib.ListN.{length, set, length-append}
+use lib.ListN.{length, length-append}
 use lib.Seq.{sets}
 use borrow.Author.Tests.{ne-eqb, le-leb, lt-leb}
 use Rattle.words.proofs.BelowLaws.{list-below-long}
-use Rattle.words.proofs.PartLaws.{sets-append, put-front}
+use Rattle.words.proofs.PartLaws.{put-front}
 use Rattle.phases.specs.Kind as Kind
 use Rattle.bus.specs.Refusal.{accepted}
 use Rattle.judgement.specs.declared.event.Event.{Event}
@@ -58,20 +58,7 @@ picture-long m = omega (arith, length-append (levelsOf m) (drivenOf m), levels-l
 pub line-long : (m : Moment) → length (pictureLine m) ≡ pictureLength
 line-long m = omega (arith, length-append (pictureOf m) (newline ∷ []), picture-long m)
 
--- ---- Put one behind the other
-
--- some bytes at the front, and others right behind them
-behind : (xs ys place : List ℕ) (k : ℕ) → length xs ≡ k → sets (sets place 0 xs) k ys ≡ sets place 0 (xs ++ ys)
-behind xs ys place k e =
-    let here : k ≡ 0 + length xs = omega (arith, e) in
-    ap (λ (i : ℕ). sets (sets place 0 xs) i ys) here ∙ sym (sets-append xs ys place 0)
-
--- levels, behind them what is driven, and a newline
-pub picture-put : (place : List ℕ) (m : Moment)
-    → set (sets (sets place 0 (levelsOf m)) levelDigits (drivenOf m)) pictureDigits newline ≡ sets place 0 (pictureLine m)
-picture-put place m =
-    ap (λ (l : List ℕ). set l pictureDigits newline) (behind (levelsOf m) (drivenOf m) place levelDigits (levels-long m))
-    ∙ behind (pictureOf m) (newline ∷ []) place pictureDigits (picture-long m)
+-- ---- The lines of some moments
 
 -- one line, and two
 no-lines : length (linesFor []) ≡ 0
@@ -92,10 +79,6 @@ one-put out out' written m n same put = rw (one-line n) (
   put .0 ∙ sym (line-long n),
   put .1 ∙ ap (λ (l : Moment). sets out 0 (pictureLine l)) same,
 )
-
-pub two-put : (place : List ℕ) (m n : Moment)
-    → sets (sets place 0 (pictureLine m)) pictureLength (pictureLine n) ≡ sets place 0 (linesFor (m ∷ n ∷ []))
-two-put place m n = behind (pictureLine m) (pictureLine n) place pictureLength (line-long m) ∙ ap (sets place 0) (sym (two-lines m n))
 
 pub two-long : (m n : Moment) → length (linesFor (m ∷ n ∷ [])) ≡ pictureLength + pictureLength
 two-long m n = ap length (two-lines m n) ∙ omega (arith, length-append (pictureLine m) (pictureLine n), line-long m, line-long n)

@@ -32,9 +32,10 @@ struct Filled {
 pub fn run(wanted: u8, input: i32)
     ensures { λ r. ⌜ r ≡ tt ⌝ }
 {
-    // With shorter ones there are more calls of the system, which shows in the time (docs/BENCH.md); no shorter text would do than 22 bytes.
+    // A text full of right lines has its answers written at once. Less room, down to 22 bytes of text and the most that a line gets, would do
+    // with more calls of the system (docs/BENCH.md).
     let mut text = [0u8; 32768];
-    let mut out = [0u8; 40960];
+    let mut out = [0u8; 41984];
     let mut memory = [0u8; 65536];
     let mut ports = [0u8; 256];
     take_turns(wanted, input, &mut text, &mut out, &mut memory, &mut ports);

@@ -24,6 +24,8 @@ write-all-spec =
     (λ c. search needs)
     (λ c. search needs)
     (λ c. search needs)
-    (λ c. rest-less (c .before .before .before .before .before .loop .rest .now) (c .before .before .count .result) (c .before .if1 .left) (c .before .before .count .ensures .0 .0))
+    (λ c.
+    let counted = c .before .before in
+    rest-less (counted .before .before .before .loop .rest .now) (counted .count .result) (c .before .if1 .left) (counted .count .ensures .0 .0))
     (λ c. tt)
     (λ c. search needs))

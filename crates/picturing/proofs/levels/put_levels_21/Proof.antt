@@ -15,8 +15,12 @@ start c = c .before .before .before .before .before .before
 returns : tie.Need-returns
 unfolding listBelow beside pinTable
 returns c =
-    five-stored (start c .args .five .now) (start c .pre) (c .before .before .before .before .pin-digit .ensures) (c .before .before .before .pin-digit2 .ensures) (c .before .before .pin-digit3 .ensures)
-    (c .before .pin-digit4 .ensures) (c .pin-digit5 .ensures)
+    five-stored (start c .args .five .now) (start c .pre)
+    (c .before .before .before .before .pin-digit .ensures)
+    (c .before .before .before .pin-digit2 .ensures)
+    (c .before .before .pin-digit3 .ensures)
+    (c .before .pin-digit4 .ensures)
+    (c .pin-digit5 .ensures)
 
 pub put-levels-21-spec : {M : Type 1} → statement M
 put-levels-21-spec =

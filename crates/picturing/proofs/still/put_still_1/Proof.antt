@@ -37,8 +37,11 @@ returns c =
     let from = start c in
     let m = from .args .m in
     sets-all (from .args .ten .now) (stored c) (sym (from .pre .0))
-    ∙ ap₂ _++_ (five-found refl refl refl (c .before .before .before .pin-digit .ensures) (c .before .before .pin-digit2 .ensures) ∙ sym (still-1 m (from .pre .1 .0)))
-    (five-found (c .before .pin-digit3 .ensures) (c .pin-digit4 .ensures) refl refl refl ∙ sym (still-21 m (from .pre .1 .0) (from .pre .1 .1)))
+    ∙ ap₂ _++_
+    (five-found refl refl refl (c .before .before .before .pin-digit .ensures) (c .before .before .pin-digit2 .ensures)
+    ∙ sym (still-1 m (from .pre .1 .0)))
+    (five-found (c .before .pin-digit3 .ensures) (c .pin-digit4 .ensures) refl refl refl
+    ∙ sym (still-21 m (from .pre .1 .0) (from .pre .1 .1)))
 
 pub put-still-1-spec : {M : Type 1} → statement M
 put-still-1-spec =

@@ -37,8 +37,11 @@ returns c =
     let from = start c in
     let m = from .args .m in
     sets-all (from .args .ten .now) (stored c) (sym (from .pre .0))
-    ∙ ap₂ _++_ (five-found refl refl refl (c .before .before .before .before .pin-digit .ensures) (c .before .before .before .pin-digit2 .ensures) ∙ sym (still-41 m (from .pre .1 .0) (from .pre .1 .1)))
-    (five-found refl (c .before .before .pin-digit3 .ensures) refl (c .before .pin-digit4 .ensures) (c .pin-digit5 .ensures) ∙ sym (still-61 m (from .pre .1 .0)))
+    ∙ ap₂ _++_
+    (five-found refl refl refl (c .before .before .before .before .pin-digit .ensures) (c .before .before .before .pin-digit2 .ensures)
+    ∙ sym (still-41 m (from .pre .1 .0) (from .pre .1 .1)))
+    (five-found refl (c .before .before .pin-digit3 .ensures) refl (c .before .pin-digit4 .ensures) (c .pin-digit5 .ensures)
+    ∙ sym (still-61 m (from .pre .1 .0)))
 
 pub put-still-41-spec : {M : Type 1} → statement M
 put-still-41-spec =
