@@ -1,7 +1,7 @@
 // The lines of a picture, each digit put where it stays.
 ghost use mathlib.Core.List.{[], _∷_};
 ghost use mathlib.Core.Path.{_≡_};
-ghost use Prim.Native.Nat.{_+_, _≤_};
+ghost use Prim.Native.Nat.{_≤_};
 ghost use lib.ListN.{length};
 ghost use lib.Seq.{sets};
 ghost use Rattle.pins.specs.Moments.{evenMoment, oddMoment, cycleMoments};
