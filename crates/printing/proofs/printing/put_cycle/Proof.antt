@@ -5,7 +5,6 @@ use mathlib.Core.List.{List, [], _∷_, _++_}
 use native.Mathlib.Omega.{arith}
 use borrow.Author.Needs.{needs}
 use lib.ListN.{length-set}
-use lib.Seq.{length-sets}
 use Rattle.words.proofs.PartLaws.{sets-all}
 use Rattle.text.specs.Newlines.{newline}
 use Rattle.printing.proofs.LineLaws.{two-found, four-found}
@@ -47,7 +46,7 @@ stored c =
 -- ---- Needs
 
 same-length : tie.Need-same-length
-same-length c = length-sets (start c .args .part .now) 0 (stored c)
+same-length c = simp length-set refl
 
 returns : tie.Need-returns
 returns c =

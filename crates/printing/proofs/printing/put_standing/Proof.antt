@@ -1,11 +1,10 @@
 -- Eight stores over the whole part.
 use Prim.Native.Nat.{ℕ}
-use mathlib.Core.Path.{sym, ap₂, _∙_}
+use mathlib.Core.Path.{refl, sym, ap₂, _∙_}
 use mathlib.Core.List.{List, [], _∷_, _++_}
 use native.Mathlib.Omega.{arith}
 use borrow.Author.Needs.{needs}
 use lib.ListN.{length-set}
-use lib.Seq.{length-sets}
 use Rattle.words.proofs.PartLaws.{sets-all}
 use Rattle.printing.proofs.LineLaws.{two-found}
 use Rattle.printing.proofs.printing.put_standing.Statement.{statement}
@@ -40,7 +39,7 @@ stored c =
 -- ---- Needs
 
 same-length : tie.Need-same-length
-same-length c = length-sets (start c .args .part .now) 0 (stored c)
+same-length c = simp length-set refl
 
 returns : tie.Need-returns
 returns c =
