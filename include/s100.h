@@ -31,6 +31,7 @@ extern "C" {
 #define S100_PICTURE_DIGITS 50 /* of a picture, which a newline ends */
 #define S100_PICTURES_SIZE 102 /* two pictures with their newlines, the most that an event has */
 #define S100_SEEN_SIZE 4
+#define S100_OUTCOME_SIZE 4
 
 /* ---- The bytes of a state. A field of two bytes has its high byte first; in a set of cards, card n is the bit of weight 1 << n. Any 38 bytes
  * are a state, though not all of them make sense. */
@@ -96,6 +97,16 @@ extern "C" {
 
 #define S100_NO_PHASE 0xFF
 
+/* ---- The bytes of an outcome, what an arbitration means for one card, in the order of the line that the program s100_why prints for it: printed
+ * as hexadecimal digits, they are that line. */
+
+#define S100_OUTCOME_REFUSAL_AT 0 /* 1 byte: one of the answers below */
+#define S100_OUTCOME_CARD_AT 1    /* 1 byte: the card that was asked about, as given */
+#define S100_OUTCOME_LINE_AT 2    /* 1 byte: the priority line at which it loses, 3 (of weight 8) to 0 (of weight 1), or S100_NO_LINE */
+#define S100_OUTCOME_RIVAL_AT 3   /* 1 byte: the card to which it loses there, or S100_NOBODY */
+
+#define S100_NO_LINE 0xFF
+
 /* ---- Events. Behind each kind stand the fields that it has and the phases in which it can be accepted. A field that it doesn't have must be
  * 0, the speaker too. */
 
@@ -120,13 +131,13 @@ extern "C" {
 #define S100_PERMANENT_MASTER 0x10
 
 /* ---- Answers: 0, or why the call was refused; of several reasons the one with the lowest number. Setup answers 00 or 0B, step 00 to 0A,
- * settle 00, 02, 03 or 05 to 08, and the reading of a picture 00, 0C or 0D. Of a line 0C is judged before anything else about it, and 0D right
- * after it: the text program gives both before 0B. */
+ * settle 00, 02, 03 or 05 to 08, and so does the outcome for a card; the reading of a picture 00, 0C or 0D. Of a line 0C is judged before
+ * anything else about it, and 0D right after it: the text program gives both before 0B. */
 
 #define S100_ACCEPTED 0x00
 #define S100_REFUSED_WRONG_BUFFERS 0x01     /* memory or ports of a wrong length */
 #define S100_REFUSED_SENSELESS 0x02         /* a state that makes no sense */
-#define S100_REFUSED_MALFORMED 0x03         /* no such kind, a field that the event can't have, a number in a settle list that is no card's */
+#define S100_REFUSED_MALFORMED 0x03         /* no such kind, a field that the event can't have; where cards are asked about, a number above 15 */
 #define S100_REFUSED_NAMES_NOBODY 0x04      /* a request by no card */
 #define S100_REFUSED_NOT_FITTED 0x05        /* a card is named that isn't fitted */
 #define S100_REFUSED_WRONG_PHASE 0x06       /* not in this phase */
@@ -179,6 +190,13 @@ uint8_t s100_picture(uint8_t kind, uint32_t address, const uint8_t *answer, size
  * digits is refused as S100_REFUSED_WRONG_CHARACTER: the column of the first such byte is then written, counted from 1, and 0 in the other three.
  * With a place of a wrong length nothing is written, and the answer is S100_WRONG_LENGTH, whatever the line. */
 uint8_t s100_read_picture(const uint8_t *line, size_t line_length, uint8_t *seen, size_t seen_length);
+
+/* Tells whether a card wins the arbitration that the state is in, and if not, why: the highest priority line at which its number has 0 and the
+ * lines show 1, and the highest-numbered contender that drives that line. The four bytes are written in either case: where the card wins, and
+ * where the call is refused, S100_NO_LINE and S100_NOBODY stand for line and rival. The refusal is returned: a senseless state, a card above 15,
+ * one that isn't fitted, a phase other than arbitration, a card that doesn't contend, lines that aren't settled, the first of these that applies.
+ * The state is only read. Where a length is wrong nothing is written, and S100_WRONG_LENGTH is returned. */
+uint8_t s100_why(const uint8_t *state, size_t state_length, uint8_t card, uint8_t *outcome, size_t outcome_length);
 
 /* Fields can be read of any state, also of one that makes no sense; where there is no such field it is S100_NO_FIELD. */
 

@@ -1,7 +1,7 @@
 //! The library and the model side by side: the same call is made of each, and everything lent to the two is compared afterwards.
 
 use crate::face::{self, Event, Field, ANSWER_SIZE, MEMORY_SIZE, PHASE_AT, PORTS_SIZE, STATE_SIZE};
-use crate::face::{PICTURES_SIZE, PICTURE_DIGITS, SEEN_SIZE};
+use crate::face::{OUTCOME_SIZE, PICTURES_SIZE, PICTURE_DIGITS, SEEN_SIZE};
 use crate::model::{self, Refusal};
 use crate::tally::Tally;
 use std::fmt::Write;
@@ -21,6 +21,7 @@ pub enum Call {
     Settle { cards: Vec<u8> },
     Picture { kind: u8, address: u32, answer: Vec<u8> },
     ReadPicture { line: Vec<u8>, afresh: bool },
+    Why { card: u8 },
     Field(Field),
 }
 
@@ -33,10 +34,18 @@ pub struct Lengths {
     pub answer: usize,
     pub lines: usize,
     pub seen: usize,
+    pub outcome: usize,
 }
 
-pub const RIGHT: Lengths =
-    Lengths { state: STATE_SIZE, memory: MEMORY_SIZE, ports: PORTS_SIZE, answer: ANSWER_SIZE, lines: PICTURES_SIZE, seen: SEEN_SIZE };
+pub const RIGHT: Lengths = Lengths {
+    state: STATE_SIZE,
+    memory: MEMORY_SIZE,
+    ports: PORTS_SIZE,
+    answer: ANSWER_SIZE,
+    lines: PICTURES_SIZE,
+    seen: SEEN_SIZE,
+    outcome: OUTCOME_SIZE,
+};
 
 /// Bytes to lend, between margins.
 #[derive(PartialEq)]
@@ -98,6 +107,7 @@ pub struct Side {
     pub answer: Buffer,
     pub lines: Buffer,
     pub seen: Buffer,
+    pub outcome: Buffer,
     list: Buffer,
     looks: [usize; 3],
 }
@@ -106,7 +116,8 @@ impl Side {
     fn new() -> Side {
         let (state, memory, ports) = (Buffer::new(STATE_SIZE), Buffer::new(MEMORY_SIZE), Buffer::new(PORTS_SIZE));
         let (answer, lines, seen) = (Buffer::new(ANSWER_SIZE), Buffer::new(PICTURES_SIZE), Buffer::new(SEEN_SIZE));
-        Side { state, memory, ports, answer, lines, seen, list: Buffer::new(0), looks: [0; 3] }
+        let (outcome, list) = (Buffer::new(OUTCOME_SIZE), Buffer::new(0));
+        Side { state, memory, ports, answer, lines, seen, outcome, list, looks: [0; 3] }
     }
 
     pub fn looks(&self) -> usize {
@@ -114,12 +125,14 @@ impl Side {
     }
 
     /// Fills what the call may or may not write with bytes that it can't know, so that both a write too many and one too few show. A step's
-    /// answer outlasts its pictures. The bytes for a reading are never 0, nor any column: those have to be written.
+    /// answer outlasts its pictures. The bytes for a reading are never 0, nor any column: those have to be written. Those for an outcome
+    /// are no refusal, line or rival, nor the card: their lowest bit isn't the card's.
     fn prepare(&mut self, call: &Call, lent: Lengths, garbage: u64) {
         match call {
             Call::Picture { .. } => self.lines.fill(garbage as u8, lent.lines),
             Call::ReadPicture { afresh: true, .. } => self.seen.fill(garbage as u8 | 0x80, lent.seen),
             Call::ReadPicture { afresh: false, .. } => {}
+            Call::Why { card } => self.outcome.fill(0x40 | garbage as u8 & 0x3E | !card & 1, lent.outcome),
             _ => {
                 self.answer.fill(garbage as u8, lent.answer);
                 self.looks = [garbage as usize; 3];
@@ -130,7 +143,7 @@ impl Side {
             Call::Settle { cards } => cards,
             Call::Picture { answer, .. } => answer,
             Call::ReadPicture { line, .. } => line,
-            Call::Step(_) | Call::Field(_) => &[],
+            Call::Step(_) | Call::Why { .. } | Call::Field(_) => &[],
         };
         self.list.hold(list, garbage as u8);
     }
@@ -146,6 +159,7 @@ impl Side {
             Call::Settle { .. } => face::settle(state, self.list.bytes(), &mut self.looks[1]).into(),
             Call::Picture { kind, address, .. } => face::picture(*kind, *address, self.list.bytes(), self.lines.lend(lent.lines)).into(),
             Call::ReadPicture { .. } => face::read_picture(self.list.bytes(), self.seen.lend(lent.seen)).into(),
+            Call::Why { card } => face::why(state, *card, self.outcome.lend(lent.outcome)).into(),
             Call::Field(field) => face::field(*field, state),
         }
     }
@@ -161,17 +175,21 @@ impl Side {
             Call::Settle { .. } => model::settle(state, self.list.bytes(), &mut self.looks[1]).into(),
             Call::Picture { kind, address, .. } => model::picture(*kind, *address, self.list.bytes(), self.lines.lend(lent.lines)).into(),
             Call::ReadPicture { .. } => model::read_picture(self.list.bytes(), self.seen.lend(lent.seen)).into(),
+            Call::Why { card } => model::why(state, *card, self.outcome.lend(lent.outcome)).into(),
             Call::Field(field) => model::field(*field, state),
         }
     }
 
-    /// Pictures and readings follow every step, so what they aren't lent is left to the call after them.
+    /// Pictures and readings follow every step, and all cards are asked about one after the other, so what these calls aren't lent is left
+    /// to the call after them.
     fn agrees(&self, other: &Side, call: &Call, lent: Lengths) -> bool {
+        let states_alike = || self.state.around(lent.state) == other.state.around(lent.state);
         let written_alike = match call {
             Call::Picture { .. } => self.lines.around(lent.lines) == other.lines.around(lent.lines),
             Call::ReadPicture { .. } => self.seen.around(lent.seen) == other.seen.around(lent.seen),
+            Call::Why { .. } => states_alike() && self.outcome.around(lent.outcome) == other.outcome.around(lent.outcome),
             _ => {
-                self.state.around(lent.state) == other.state.around(lent.state)
+                states_alike()
                     && self.memory.around(lent.memory) == other.memory.around(lent.memory)
                     && self.ports.around(lent.ports) == other.ports.around(lent.ports)
                     && self.answer.around(lent.answer) == other.answer.around(lent.answer)
@@ -243,6 +261,9 @@ impl Both {
         if let Call::ReadPicture { line, .. } = &call {
             self.tally.note_reading(line, found, self.library.seen.bytes());
         }
+        if let Call::Why { card } = call {
+            self.tally.note_outcome(card, found, self.library.outcome.bytes());
+        }
         let agrees = found == expected && self.library.agrees(&self.model, &call, lent);
         self.last = Some(Made { call, lent, state });
         if !agrees {
@@ -306,10 +327,11 @@ impl Both {
     /// What a rule asks of the call just made, beyond that the two agree.
     pub fn expect(&self, holds: bool, rule: &str) {
         if !holds {
-            let Side { state, answer, seen, .. } = &self.library;
-            let [state, answer, seen] = [state, answer, seen].map(|buffer| hex(buffer.bytes()));
+            let Side { state, answer, seen, outcome, .. } = &self.library;
+            let [state, answer, seen, outcome] = [state, answer, seen, outcome].map(|buffer| hex(buffer.bytes()));
             let looks = self.library.looks();
-            self.fail(rule, &format!("that isn't so of\nstate: {state}\nanswer: {answer}\nseen: {seen}\nlooks: {looks}"));
+            let found = format!("state: {state}\nanswer: {answer}\nseen: {seen}\noutcome: {outcome}\nlooks: {looks}");
+            self.fail(rule, &format!("that isn't so of\n{found}"));
         }
     }
 
@@ -330,6 +352,7 @@ impl Both {
             ("answer", &ours.answer, &theirs.answer, lent.answer),
             ("lines", &ours.lines, &theirs.lines, lent.lines),
             ("seen", &ours.seen, &theirs.seen, lent.seen),
+            ("outcome", &ours.outcome, &theirs.outcome, lent.outcome),
             ("list", &ours.list, &theirs.list, theirs.list.right),
         ] {
             _ = writeln!(text, "{name}, between its margins:\n  library {}\n  model   {}", library.shown(length), model.shown(length));
@@ -359,6 +382,7 @@ fn described(call: &Call) -> String {
             let place = if *afresh { "a place filled afresh" } else { "the place as it was left" };
             format!("read_picture, into {place}: {} bytes {}, \"{}\"", line.len(), hex(line), line.escape_ascii())
         }
+        Call::Why { card } => format!("why: card {card:02X}"),
         Call::Field(field) => format!("field: {field:?}"),
     }
 }

@@ -1,5 +1,5 @@
-//! Compares the proved library, called through its C face, with an independent model of the rules in 01, of the pictures in 02, CR 1, and
-//! of the refused lines in 02, CR 2, and tells what was reached.
+//! Compares the proved library, called through its C face, with an independent model of the rules in 01, of the pictures in 02, CR 1, of
+//! the refused lines in 02, CR 2, and of the reasons for a card's loss in 02, CR 4, and tells what was reached.
 //!
 //! Usage: compare [CALLS [SEED]], where CALLS is the least number of random calls. It exits 0 only if the two agreed in everything and
 //! everything was reached that ought to be.
@@ -11,12 +11,14 @@ mod model;
 mod reading;
 mod rounds;
 mod tally;
+mod why;
 
 use both::{Both, Call, Lengths, State, RIGHT};
 use draw::Chance;
 use face::{Event, Field, ANSWER_SIZE, PICTURES_SIZE, PICTURE_DIGITS, SEEN_SIZE};
 use face::{GRANTED_AT, NOBODY, PAGES_AT, PAGES_SIZE, PERMANENT_MASTER, STATE_SIZE};
 use model::Refusal;
+use why::Told;
 
 fn setup(chance: &mut Chance) -> Call {
     Call::Setup { fitted: chance.next() as u16, pages: draw::page_codes(chance) }
@@ -31,12 +33,13 @@ fn picture(chance: &mut Chance) -> Call {
 fn single(both: &mut Both, chance: &mut Chance) {
     let state = draw::state(chance);
     both.place(&state);
-    let call = match chance.below(12) {
+    let call = match chance.below(13) {
         0 => setup(chance),
         1 | 2 => Call::Settle { cards: draw::list(chance, &state) },
         3 => Call::Field(draw::field(chance)),
         4 => picture(chance),
         5 => Call::ReadPicture { line: draw::line(chance), afresh: chance.one_in(2) },
+        6 => Call::Why { card: draw::asker(chance, &state) },
         _ => Call::Step(draw::event(chance, &state)),
     };
     both.make(call, draw::lengths(chance));
@@ -47,10 +50,11 @@ fn walk(both: &mut Both, chance: &mut Chance, calls: usize) {
     while both.make(setup(chance), RIGHT) != 0 {}
     for _ in 0..calls {
         let state = both.state();
-        let call = match chance.below(30) {
+        let call = match chance.below(31) {
             0 => Call::Settle { cards: draw::list(chance, &state) },
             1 => Call::Field(draw::field(chance)),
-            2..=8 => Call::Step(draw::event(chance, &state)),
+            2 => Call::Why { card: draw::asker(chance, &state) },
+            3..=9 => Call::Step(draw::event(chance, &state)),
             _ => Call::Step(draw::next_event(chance, &state)),
         };
         both.make(call, draw::lengths(chance));
@@ -92,6 +96,7 @@ fn bytes_of_a_state(both: &mut Both, chance: &mut Chance, cases: usize) {
                 other[at] = byte;
                 both.place(&other);
                 both.read(Field::MakesSense);
+                both.make(Call::Why { card: draw::asker(chance, &other) }, RIGHT);
                 both.step(draw::next_event(chance, &other));
             }
         }
@@ -132,7 +137,7 @@ fn senseless_states(both: &mut Both, chance: &mut Chance, cases: usize) {
     }
 }
 
-/// Each buffer alone of a wrong length, with every call that it is lent to.
+/// Each buffer alone of a wrong length, with every call that it is lent to; pictures, readings and outcomes have trials of their own.
 fn wrong_lengths(both: &mut Both, chance: &mut Chance, cases: usize) {
     for case in 0..cases {
         let wrong = |right: usize| draw::wrong_lengths(right)[case % 5];
@@ -240,6 +245,22 @@ fn lines_to_read(both: &mut Both, chance: &mut Chance) {
     reading::into_one_place(both, chance, 20);
 }
 
+/// Tells how many cards won and lost where the lines were settled, and returns what is wrong about these numbers: each of the sixteen
+/// contends in half of the 65,536 sets, of which one is empty, and in each of the others one wins.
+fn outcomes(both: &mut Both, chance: &mut Chance) -> Option<String> {
+    why::random_levels(both, chance, 10_000);
+    why::one_bit_off(both, chance, 200);
+    why::numbers_in_phases(both, chance, 50);
+    why::senseless_states(both, chance, 200);
+    why::reasons_together(both, chance, 100);
+    why::wrong_lengths(both, chance, 200);
+    let told = why::every_set(both, chance);
+    println!("all sets of contenders, settled, and all cards: {} wins, {} losses, {} refusals", told.wins, told.losses, told.refusals);
+    let (sets, contenders) = (65_535, 16 * 32_768);
+    let expected = Told { wins: sets, losses: contenders - sets, refusals: sets * why::NUMBERS - contenders };
+    (told != expected).then(|| format!("all sets of contenders, settled: {told:?} instead of {expected:?}"))
+}
+
 /// Tells how many sets of contenders were taken through four rounds, and returns what is wrong about these numbers.
 fn arbitration(both: &mut Both, chance: &mut Chance) -> Vec<String> {
     rounds::three_rounds_fall_short(both, chance);
@@ -290,6 +311,7 @@ fn main() {
     wrong_lengths_of_pictures(&mut both, &mut chance, 60);
     lines_to_read(&mut both, &mut chance);
     let mut faults = arbitration(&mut both, &mut chance);
+    faults.extend(outcomes(&mut both, &mut chance));
     both.end();
 
     both.tally.print();

@@ -1,5 +1,5 @@
-//! Draws from a seeded generator: states that make sense and states that don't, events, settle lists, answers and lines for pictures, and
-//! lengths.
+//! Draws from a seeded generator: states that make sense and states that don't, events, settle lists, cards to ask about, answers and lines
+//! for pictures, and lengths.
 
 use crate::both::{Lengths, State, RIGHT};
 use crate::face::{Event, Field, ANSWER_SIZE, NOBODY, PAGES_SIZE, PERMANENT_MASTER, PICTURE_DIGITS, STATE_SIZE};
@@ -52,12 +52,12 @@ pub fn set_at(state: &State, at: usize) -> u16 {
     u16::from_be_bytes([state[at], state[at + 1]])
 }
 
-fn put_set(state: &mut State, at: usize, set: u16) {
+pub fn put_set(state: &mut State, at: usize, set: u16) {
     state[at..at + 2].copy_from_slice(&set.to_be_bytes());
 }
 
 /// Small and large sets too: an even draw would mostly have about eight cards.
-fn any_set(chance: &mut Chance) -> u16 {
+pub fn any_set(chance: &mut Chance) -> u16 {
     let (one, other) = (chance.next() as u16, chance.next() as u16);
     match chance.below(6) {
         0 => 0xFFFF,
@@ -112,15 +112,20 @@ pub fn driven_arbitration(chance: &mut Chance, contenders: u16) -> State {
     state
 }
 
-/// Settled, or but for one contender.
-fn late_arbitration(chance: &mut Chance, contenders: u16) -> State {
+pub fn settled_arbitration(chance: &mut Chance, contenders: u16) -> State {
     let mut state = undriven_arbitration(chance, contenders);
     let cards = cards_of(contenders);
     for card in &cards {
         state[DRIVEN_AT + usize::from(*card)] = settled_level(*card, cards[cards.len() - 1]);
     }
+    state
+}
+
+/// Settled, or but for one contender.
+fn late_arbitration(chance: &mut Chance, contenders: u16) -> State {
+    let mut state = settled_arbitration(chance, contenders);
     if chance.one_in(2) {
-        state[DRIVEN_AT + usize::from(chance.pick(&cards))] = chance.between(0, 15);
+        state[DRIVEN_AT + usize::from(chance.pick(&cards_of(contenders)))] = chance.between(0, 15);
     }
     state
 }
@@ -414,6 +419,24 @@ pub fn list(chance: &mut Chance, state: &State) -> Vec<u8> {
     cards
 }
 
+/// A number that no card has, often one whose low bits are a card's.
+pub fn no_card(chance: &mut Chance) -> u8 {
+    let (any, card) = (chance.between(16, 255), chance.between(0, 15));
+    chance.pick(&[16, 255, any, 16 + card, 32 + card, 128 + card])
+}
+
+/// A card to ask about, mostly a contender if there is one; of the others, idle cards are the most frequent, as in a list.
+pub fn asker(chance: &mut Chance, state: &State) -> u8 {
+    let (fitted, contenders) = (set_at(state, FITTED_AT), set_at(state, CONTENDERS_AT));
+    let found = match chance.below(12) {
+        0 => Some(no_card(chance)),
+        1 => card_from(chance, !fitted),
+        2 | 3 => card_from(chance, fitted & !contenders),
+        _ => card_from(chance, contenders),
+    };
+    found.unwrap_or(chance.between(0, 15))
+}
+
 pub fn page_codes(chance: &mut Chance) -> Vec<u8> {
     let length = if chance.one_in(8) { wrong_length(chance, PAGES_SIZE) } else { PAGES_SIZE };
     let mut codes: Vec<u8> = (0..length).map(|_| chance.between(0, 2)).collect();
@@ -511,8 +534,8 @@ fn wrong_length(chance: &mut Chance, right: usize) -> usize {
 pub fn lengths(chance: &mut Chance) -> Lengths {
     let mut lengths = RIGHT;
     if chance.one_in(12) {
-        let Lengths { state, memory, ports, answer, lines, seen } = &mut lengths;
-        for length in [state, memory, ports, answer, lines, seen] {
+        let Lengths { state, memory, ports, answer, lines, seen, outcome } = &mut lengths;
+        for length in [state, memory, ports, answer, lines, seen, outcome] {
             if chance.one_in(3) {
                 *length = wrong_length(chance, *length);
             }

@@ -11,6 +11,7 @@ pub const PORTS_SIZE: usize = 256;
 pub const PICTURE_DIGITS: usize = 50;
 pub const PICTURES_SIZE: usize = 102;
 pub const SEEN_SIZE: usize = 4;
+pub const OUTCOME_SIZE: usize = 4;
 
 pub const FITTED_AT: usize = 0;
 pub const PAGES_AT: usize = 2;
@@ -22,10 +23,14 @@ pub const GRANTED_AT: usize = 37;
 pub const SEEN_PHASE_AT: usize = 0;
 pub const SEEN_COLUMN_AT: usize = 3;
 
+pub const OUTCOME_LINE_AT: usize = 2;
+pub const OUTCOME_RIVAL_AT: usize = 3;
+
 pub const NOBODY: u8 = 0xFF;
 pub const PERMANENT_MASTER: u8 = 0x10;
 pub const NO_FIELD: u32 = 0xFFFF_FFFF;
 pub const NO_PHASE: u8 = 0xFF;
+pub const NO_LINE: u8 = 0xFF;
 
 #[derive(Clone, Copy, Debug)]
 pub struct Event {
@@ -68,6 +73,7 @@ mod library {
         pub fn s100_settle(state: *mut u8, state_length: usize, cards: *const u8, cards_length: usize, looks: *mut usize) -> u8;
         pub fn s100_picture(kind: u8, address: u32, answer: *const u8, answer_length: usize, lines: *mut u8, lines_length: usize) -> u8;
         pub fn s100_read_picture(line: *const u8, line_length: usize, seen: *mut u8, seen_length: usize) -> u8;
+        pub fn s100_why(state: *const u8, state_length: usize, card: u8, outcome: *mut u8, outcome_length: usize) -> u8;
         pub fn s100_fitted(state: *const u8, state_length: usize) -> u32;
         pub fn s100_page(state: *const u8, state_length: usize, page: u8) -> u32;
         pub fn s100_phase(state: *const u8, state_length: usize) -> u32;
@@ -112,6 +118,10 @@ pub fn picture(kind: u8, address: u32, answer: &[u8], lines: &mut [u8]) -> u8 {
 
 pub fn read_picture(line: &[u8], seen: &mut [u8]) -> u8 {
     unsafe { library::s100_read_picture(line.as_ptr(), line.len(), seen.as_mut_ptr(), seen.len()) }
+}
+
+pub fn why(state: &[u8], card: u8, outcome: &mut [u8]) -> u8 {
+    unsafe { library::s100_why(state.as_ptr(), state.len(), card, outcome.as_mut_ptr(), outcome.len()) }
 }
 
 pub fn field(field: Field, state: &[u8]) -> u32 {

@@ -12,7 +12,7 @@ static const struct {
     unsigned long number;
 } numbers[] = {
     NAMED(S100_PAGES_SIZE), NAMED(S100_STATE_SIZE), NAMED(S100_ANSWER_SIZE), NAMED(S100_MEMORY_SIZE), NAMED(S100_PORTS_SIZE),
-    NAMED(S100_PICTURE_DIGITS), NAMED(S100_PICTURES_SIZE), NAMED(S100_SEEN_SIZE),
+    NAMED(S100_PICTURE_DIGITS), NAMED(S100_PICTURES_SIZE), NAMED(S100_SEEN_SIZE), NAMED(S100_OUTCOME_SIZE),
     NAMED(S100_FITTED_AT), NAMED(S100_PAGES_AT), NAMED(S100_PHASE_AT), NAMED(S100_CONTENDERS_AT), NAMED(S100_DRIVEN_AT),
     NAMED(S100_GRANTED_AT), NAMED(S100_NOBODY),
     NAMED(S100_PAGE_ABSENT), NAMED(S100_PAGE_EIGHT_BIT), NAMED(S100_PAGE_SIXTEEN_BIT),
@@ -25,6 +25,8 @@ static const struct {
     NAMED(S100_SMEMR), NAMED(S100_SM1), NAMED(S100_SINP), NAMED(S100_SOUT), NAMED(S100_SWO),
     NAMED(S100_SEEN_PHASE_AT), NAMED(S100_SEEN_SIGNALS_AT), NAMED(S100_SEEN_LINES_AT), NAMED(S100_SEEN_COLUMN_AT),
     NAMED(S100_NO_PHASE),
+    NAMED(S100_OUTCOME_REFUSAL_AT), NAMED(S100_OUTCOME_CARD_AT), NAMED(S100_OUTCOME_LINE_AT), NAMED(S100_OUTCOME_RIVAL_AT),
+    NAMED(S100_NO_LINE),
     NAMED(S100_REQUEST), NAMED(S100_LOOK), NAMED(S100_ACKNOWLEDGE), NAMED(S100_BEGIN_TRANSFER_ONE), NAMED(S100_TAKE_BUS),
     NAMED(S100_BYTE_READ), NAMED(S100_OPCODE_FETCH), NAMED(S100_BYTE_WRITE), NAMED(S100_WORD_READ), NAMED(S100_WORD_WRITE),
     NAMED(S100_INPUT), NAMED(S100_OUTPUT), NAMED(S100_BEGIN_TRANSFER_TWO), NAMED(S100_GIVE_BACK), NAMED(S100_RESET),
@@ -36,7 +38,7 @@ static const struct {
 };
 
 static uint8_t state[S100_STATE_SIZE], answer[S100_ANSWER_SIZE], memory[S100_MEMORY_SIZE], ports[S100_PORTS_SIZE];
-static uint8_t lines[S100_PICTURES_SIZE], seen[S100_SEEN_SIZE];
+static uint8_t lines[S100_PICTURES_SIZE], seen[S100_SEEN_SIZE], outcome[S100_OUTCOME_SIZE];
 
 static void print_number(const char *name, unsigned long number) {
     printf("%s %02lX\n", name, number);
@@ -57,15 +59,25 @@ static void step(uint8_t kind, uint8_t speaker, uint32_t address, uint16_t datum
     print_bytes("answer", answer, sizeof answer);
 }
 
-/* Cards 1 and 3 contend until 3 has won; then the permanent master writes a word, over the sixteen-bit page. */
+static void why(uint8_t card) {
+    print_number("s100_why", s100_why(state, sizeof state, card, outcome, sizeof outcome));
+    print_bytes("outcome", outcome, sizeof outcome);
+}
+
+/* Cards 1 and 3 contend until 3 has won, and are asked about before the lines are settled and then, with card 2, which isn't fitted; then the
+   permanent master writes a word, over the sixteen-bit page. */
 static void arbitrate(void) {
     const uint8_t pages[S100_PAGES_SIZE] = {S100_PAGE_EIGHT_BIT, S100_PAGE_SIXTEEN_BIT};
     const uint8_t looking[] = {1, 3, 1, 3};
     size_t looks = 0;
     print_number("s100_setup", s100_setup(1 << 1 | 1 << 3, pages, sizeof pages, state, sizeof state));
     step(S100_REQUEST, 0, 0, 1 << 1 | 1 << 3);
+    why(1);
     print_number("s100_settle", s100_settle(state, sizeof state, looking, sizeof looking, &looks));
     print_number("looks", looks);
+    why(1);
+    why(2);
+    why(3);
     step(S100_WORD_WRITE, S100_PERMANENT_MASTER, 0x1000, 0x1234);
     print_bytes("memory", memory + 0x1000, 2);
     print_bytes("state", state, sizeof state);

@@ -1,12 +1,13 @@
 //! A model of the bus for the comparison to hold the proved library against: its rules are those of 01, its pictures those of 02, CR 1,
-//! with the pins of 003, Appendix B, its refusals of lines those of 02, CR 2, and its bytes those of include/s100.h.
+//! with the pins of 003, Appendix B, its refusals of lines those of 02, CR 2, its reasons for a card's loss those of 02, CR 4, and its
+//! bytes those of include/s100.h.
 //!
 //! Bytes that make no sense never become a `Bus`, so that its events needn't think of them. The functions at the end take what the C face
 //! takes: any bytes, of any length.
 
 use crate::face::{Event, Field, ANSWER_SIZE, MEMORY_SIZE, NOBODY, NO_FIELD, PAGES_SIZE, PERMANENT_MASTER, PORTS_SIZE, STATE_SIZE};
 use crate::face::{CONTENDERS_AT, DRIVEN_AT, FITTED_AT, GRANTED_AT, PAGES_AT, PHASE_AT};
-use crate::face::{NO_PHASE, PICTURES_SIZE, PICTURE_DIGITS, SEEN_SIZE};
+use crate::face::{NO_LINE, NO_PHASE, OUTCOME_SIZE, PICTURES_SIZE, PICTURE_DIGITS, SEEN_SIZE};
 use std::collections::BTreeSet;
 use std::io::Write;
 use std::sync::LazyLock;
@@ -428,13 +429,19 @@ impl Bus {
         Ok(Shown::default())
     }
 
-    /// How many looks settle the lines; a bus that refuses may be left amid its looks.
-    fn settle(&mut self, cards: &[u8]) -> Judged<usize> {
+    /// All contenders, if these numbers are some of theirs.
+    fn contenders_with(&self, cards: &[u8]) -> Judged<&[Contender]> {
         refuse_if(cards.iter().any(|card| *card > 15), Refusal::Malformed)?;
         refuse_if(cards.iter().any(|card| !self.fitted.contains(card)), Refusal::NotFitted)?;
         let Phase::Arbitration(contenders) = &self.phase else { return Err(Refusal::WrongPhase) };
         let contends = |number: &u8| contenders.iter().any(|card| card.number == *number);
         refuse_if(!cards.iter().all(contends), Refusal::NotItsTurn)?;
+        Ok(contenders)
+    }
+
+    /// How many looks settle the lines; a bus that refuses may be left amid its looks.
+    fn settle(&mut self, cards: &[u8]) -> Judged<usize> {
+        self.contenders_with(cards)?;
         let mut taken = 0;
         while !are_settled(self.phase.contenders()) {
             let card = cards.get(taken).ok_or(Refusal::Unsettled)?;
@@ -443,6 +450,27 @@ impl Bus {
         }
         Ok(taken)
     }
+
+    /// Why the card loses, or `None` if it wins: 02, CR 4. Who wins is 01's "the contender whose number the lines show".
+    fn why(&self, card: u8) -> Judged<Option<Loss>> {
+        let contenders = self.contenders_with(&[card])?;
+        refuse_if(!are_settled(contenders), Refusal::Unsettled)?;
+        let shown = lines(contenders);
+        if card == shown {
+            return Ok(None);
+        }
+        let is_lost = |line: &u8| card >> line & 1 == 0 && shown >> line & 1 == 1;
+        let line = (0..4).filter(is_lost).max().expect("settled lines show no number below a contender's");
+        let drivers = contenders.iter().filter(|contender| contender.drives >> line & 1 == 1);
+        let rival = drivers.map(|contender| contender.number).max().expect("a line shows 1 only if it is driven");
+        Ok(Some(Loss { line, rival }))
+    }
+}
+
+/// The line at which a card loses, 3 to 0, and the card to which it loses there.
+struct Loss {
+    line: u8,
+    rival: u8,
 }
 
 /// The phases by number, without the cards, which no picture shows.
@@ -740,6 +768,20 @@ pub fn read_picture(line: &[u8], seen: &mut [u8]) -> u8 {
     let phase = BARE_PHASES.iter().find(|phase| phase.signals() == by_phase).map_or(NO_PHASE, Phase::number);
     seen.copy_from_slice(&[phase, signals, pins.shown_bits(&WIRES.priority), 0]);
     0
+}
+
+pub fn why(state: &[u8], card: u8, outcome: &mut [u8]) -> u8 {
+    if state.len() != STATE_SIZE || outcome.len() != OUTCOME_SIZE {
+        return Refusal::WrongLength as u8;
+    }
+    let judged = Bus::from_bytes(state).ok_or(Refusal::Senseless).and_then(|bus| bus.why(card));
+    let (number, line, rival) = match judged {
+        Ok(Some(Loss { line, rival })) => (0, line, rival),
+        Ok(None) => (0, NO_LINE, NOBODY),
+        Err(refusal) => (refusal as u8, NO_LINE, NOBODY),
+    };
+    outcome.copy_from_slice(&[number, card, line, rival]);
+    number
 }
 
 pub fn field(field: Field, state: &[u8]) -> u32 {

@@ -74,7 +74,7 @@ fn is_acknowledged(both: &mut Both) -> bool {
     number == 0
 }
 
-fn grants(both: &mut Both, highest: u8) {
+pub fn grants(both: &mut Both, highest: u8) {
     let mut expected = both.state();
     let number = both.step(ACKNOWLEDGE);
     expected[CONTENDERS_AT..GRANTED_AT].fill(0);

@@ -1,9 +1,11 @@
 //! Counts of what the comparison reached: the numbers returned, the accepted kinds in each phase, the fields, the pictures in each phase,
-//! the refused lines and the wrong lengths.
+//! the refused lines, the cards that win and lose with the reasons to refuse to tell, and the wrong lengths.
 
 use crate::both::{Call, Lengths, RIGHT};
 use crate::draw::DIGITS;
-use crate::face::{Field, ANSWER_SIZE, NO_FIELD, PAGES_SIZE, PICTURE_DIGITS, SEEN_COLUMN_AT, SEEN_PHASE_AT};
+use crate::face::{Field, ANSWER_SIZE, NOBODY, NO_FIELD, PAGES_SIZE, PICTURE_DIGITS};
+use crate::face::{OUTCOME_LINE_AT, OUTCOME_RIVAL_AT, SEEN_COLUMN_AT, SEEN_PHASE_AT};
+use crate::why::REASONS;
 
 pub struct Tally {
     setup: [u64; 256],
@@ -11,13 +13,15 @@ pub struct Tally {
     settle: [u64; 256],
     picture: [u64; 256],
     read_picture: [u64; 256],
+    why: [u64; 256],
     accepted: [[u64; 6]; 16],
     fields: [FieldCalls; 8],
     shown: [[u64; 6]; 10],
     seen: [u64; 256],
     refused_lines: [u64; 4],
     columns: [u64; 256],
-    wrong: [u64; 10],
+    outcomes: Outcomes,
+    wrong: [u64; 12],
 }
 
 #[derive(Clone, Copy, Default)]
@@ -87,7 +91,63 @@ fn place_of_refused(line: &[u8]) -> usize {
     }
 }
 
-const WRONG: [&str; 10] = [
+/// Whether these reasons to refuse, by their order in 02, CR 4, can hold at once. A number above 15 never contends, and 05 isn't for it.
+/// Where the state makes sense only fitted cards contend, and only in arbitration; elsewhere there is no look that would change anything.
+fn can_hold([senseless, no_card, unfitted, elsewhere, idle, unsettled]: [bool; 6]) -> bool {
+    let of_a_number = !no_card || idle && !unfitted;
+    let of_a_bus = (idle || !unfitted && !elsewhere) && !(elsewhere && unsettled);
+    of_a_number && (senseless || of_a_bus)
+}
+
+/// What was told of cards: the lines lost; who takes the bus from each contender, itself if it wins; and the sets of reasons to refuse that
+/// held when one was asked about.
+struct Outcomes {
+    lines_lost: [u64; 256],
+    takers: [[u64; 16]; 16],
+    reasons: [u64; 64],
+}
+
+impl Outcomes {
+    fn new() -> Outcomes {
+        Outcomes { lines_lost: [0; 256], takers: [[0; 16]; 16], reasons: [0; 64] }
+    }
+
+    /// Cards with those that take the bus from them, if that `can_be`, and how often they did.
+    fn pairs(&self, can_be: bool) -> impl Iterator<Item = (usize, usize, u64)> + '_ {
+        let all = (0..16).flat_map(|card| (0..16).map(move |taker| (card, taker)));
+        all.filter(move |(card, taker)| (taker >= card) == can_be).map(|(card, taker)| (card, taker, self.takers[card][taker]))
+    }
+
+    /// Sets of reasons, if they `can_be`, by the refusals' numbers, and how often they held.
+    fn sets(&self, can_be: bool) -> impl Iterator<Item = (String, u64)> + '_ {
+        let held = |set: usize| std::array::from_fn(|at| set >> at & 1 == 1);
+        (0..64).filter(move |set| can_hold(held(*set)) == can_be).map(move |set| {
+            let reasons = REASONS.iter().zip(held(set)).filter(|(_, holds)| *holds);
+            let numbers: Vec<String> = reasons.map(|(reason, _)| format!("{:02X}", *reason as u8)).collect();
+            (if set == 0 { "none".into() } else { numbers.join("+") }, self.reasons[set])
+        })
+    }
+
+    fn print(&self) {
+        let (all, fewest) = self.pairs(true).fold((0, u64::MAX), |(all, fewest), (_, _, count)| (all + count, fewest.min(count)));
+        println!("pairs of a contender and the one to which it loses, itself if it wins: {all}, each {fewest} times or more");
+        println!("cards asked about, by all the reasons to refuse that held:");
+        println!("  {}", self.sets(true).map(|(numbers, count)| format!("{numbers}: {count}")).collect::<Vec<String>>().join(", "));
+    }
+
+    fn faults(&self) -> Vec<String> {
+        let mut faults = Vec::new();
+        for can_be in [true, false] {
+            let pairs = self.pairs(can_be).filter(|(_, _, count)| (*count > 0) != can_be);
+            faults.extend(pairs.map(|(card, taker, count)| format!("card {card} lost the bus to card {taker} {count} times")));
+            let sets = self.sets(can_be).filter(|(_, count)| (*count > 0) != can_be);
+            faults.extend(sets.map(|(numbers, count)| format!("the reasons {numbers} held {count} times")));
+        }
+        faults
+    }
+}
+
+const WRONG: [&str; 12] = [
     "setup's pages",
     "setup's state",
     "step's state",
@@ -98,11 +158,13 @@ const WRONG: [&str; 10] = [
     "picture's answer",
     "picture's lines",
     "read_picture's seen",
+    "why's state",
+    "why's outcome",
 ];
 
 /// In the order of `WRONG`.
-fn wrong_lengths(call: &Call, lent: Lengths) -> [bool; 10] {
-    let mut wrong = [false; 10];
+fn wrong_lengths(call: &Call, lent: Lengths) -> [bool; 12] {
+    let mut wrong = [false; 12];
     let state = lent.state != RIGHT.state;
     match call {
         Call::Setup { pages, .. } => (wrong[0], wrong[1]) = (pages.len() != PAGES_SIZE, state),
@@ -113,6 +175,7 @@ fn wrong_lengths(call: &Call, lent: Lengths) -> [bool; 10] {
         Call::Settle { .. } => wrong[6] = state,
         Call::Picture { answer, .. } => (wrong[7], wrong[8]) = (answer.len() != ANSWER_SIZE, lent.lines != RIGHT.lines),
         Call::ReadPicture { .. } => wrong[9] = lent.seen != RIGHT.seen,
+        Call::Why { .. } => (wrong[10], wrong[11]) = (state, lent.outcome != RIGHT.outcome),
         Call::Field(_) => {}
     }
     wrong
@@ -138,16 +201,21 @@ const STEP_ANSWERS: [usize; 12] = [0x00, 0x01, 0x02, 0x03, 0x04, 0x05, 0x06, 0x0
 const SETTLE_ANSWERS: [usize; 8] = [0x00, 0x02, 0x03, 0x05, 0x06, 0x07, 0x08, 0xFF];
 const PICTURE_ANSWERS: [usize; 4] = [0, 51, 102, 0xFF];
 const READ_PICTURE_ANSWERS: [usize; 4] = [0x00, 0x0C, 0x0D, 0xFF];
+const WHY_ANSWERS: [usize; 8] = [0x00, 0x02, 0x03, 0x05, 0x06, 0x07, 0x08, 0xFF];
 
 /// What is read as a phase: 01's six, or that there is none.
 const SEEN_PHASES: [usize; 7] = [0, 1, 2, 3, 4, 5, 0xFF];
+
+/// Where a card loses: at one of the four lines, or nowhere, since it wins.
+const LINES_LOST: [usize; 5] = [0, 1, 2, 3, 0xFF];
 
 impl Tally {
     pub fn new() -> Tally {
         let (setup, step, settle, picture, read_picture) = ([0; 256], [0; 256], [0; 256], [0; 256], [0; 256]);
         let (accepted, fields, shown) = ([[0; 6]; 16], [FieldCalls::default(); 8], [[0; 6]; 10]);
-        let (seen, refused_lines, columns, wrong) = ([0; 256], [0; 4], [0; 256], [0; 10]);
-        Tally { setup, step, settle, picture, read_picture, accepted, fields, shown, seen, refused_lines, columns, wrong }
+        let (seen, refused_lines, columns, wrong) = ([0; 256], [0; 4], [0; 256], [0; 12]);
+        let (why, outcomes) = ([0; 256], Outcomes::new());
+        Tally { setup, step, settle, picture, read_picture, why, accepted, fields, shown, seen, refused_lines, columns, outcomes, wrong }
     }
 
     pub fn note(&mut self, call: &Call, lent: Lengths, phase_before: u8, returned: u32) {
@@ -157,6 +225,7 @@ impl Tally {
             Call::Settle { .. } => self.settle[number] += 1,
             Call::Picture { .. } => self.picture[number] += 1,
             Call::ReadPicture { .. } => self.read_picture[number] += 1,
+            Call::Why { .. } => self.why[number] += 1,
             Call::Field(field) => {
                 let calls = &mut self.fields[place_of(*field)];
                 calls.made += 1;
@@ -173,8 +242,8 @@ impl Tally {
     }
 
     /// A wrong length beside another isn't counted, since then either may be the reason for the answer.
-    fn note_lengths(&mut self, wrong: [bool; 10]) {
-        if let [at] = (0..10).filter(|at| wrong[*at]).collect::<Vec<usize>>()[..] {
+    fn note_lengths(&mut self, wrong: [bool; 12]) {
+        if let [at] = (0..12).filter(|at| wrong[*at]).collect::<Vec<usize>>()[..] {
             self.wrong[at] += 1;
         }
     }
@@ -197,8 +266,27 @@ impl Tally {
         }
     }
 
+    /// What was told of a card, if it wasn't refused.
+    pub fn note_outcome(&mut self, card: u8, returned: u32, outcome: &[u8]) {
+        if returned != 0 {
+            return;
+        }
+        let (line, rival) = (outcome[OUTCOME_LINE_AT], outcome[OUTCOME_RIVAL_AT]);
+        self.outcomes.lines_lost[usize::from(line)] += 1;
+        let taker = if rival == NOBODY { card } else { rival };
+        if card < 16 && taker < 16 {
+            self.outcomes.takers[usize::from(card)][usize::from(taker)] += 1;
+        }
+    }
+
+    /// The reasons to refuse that held when a card was asked about, by their order in 02, CR 4.
+    pub fn note_reasons(&mut self, held: [bool; 6]) {
+        let set: usize = held.iter().enumerate().map(|(at, holds)| usize::from(*holds) << at).sum();
+        self.outcomes.reasons[set] += 1;
+    }
+
     /// Counts by number, with the numbers that there can be.
-    fn by_number(&self) -> [(&'static str, &[u64; 256], &'static [usize]); 6] {
+    fn by_number(&self) -> [(&'static str, &[u64; 256], &'static [usize]); 8] {
         [
             ("setup, by number returned", &self.setup, &SETUP_ANSWERS),
             ("step, by number returned", &self.step, &STEP_ANSWERS),
@@ -206,6 +294,8 @@ impl Tally {
             ("picture, by number returned", &self.picture, &PICTURE_ANSWERS),
             ("read_picture, by number returned", &self.read_picture, &READ_PICTURE_ANSWERS),
             ("pictures read, by phase", &self.seen, &SEEN_PHASES),
+            ("why, by number returned", &self.why, &WHY_ANSWERS),
+            ("cards not refused, by the line lost, or FF for those that win", &self.outcomes.lines_lost, &LINES_LOST),
         ]
     }
 
@@ -230,6 +320,7 @@ impl Tally {
         let told = &self.columns[1..=PICTURE_DIGITS];
         let (all, fewest) = (told.iter().sum::<u64>(), told.iter().min().expect("columns"));
         println!("columns of wrong characters told, from 1 to {PICTURE_DIGITS}: {all}, each {fewest} times or more");
+        self.outcomes.print();
         println!("calls with one wrong length, by whose it was:");
         let shown = WRONG.iter().zip(self.wrong).map(|(name, count)| format!("{name}: {count}"));
         println!("  {}", shown.collect::<Vec<String>>().join(", "));
@@ -265,6 +356,7 @@ impl Tally {
         faults.extend(never.map(|(name, _)| format!("no line was refused for {name}")));
         let wrong = (0..256).filter(|column| (1..=PICTURE_DIGITS).contains(column) != (self.columns[*column] > 0));
         faults.extend(wrong.map(|column| format!("column {column} told {} times", self.columns[column])));
+        faults.extend(self.outcomes.faults());
         let never = WRONG.iter().zip(self.wrong).filter(|(_, count)| *count == 0);
         faults.extend(never.map(|(name, _)| format!("{name} was never alone of a wrong length")));
         faults

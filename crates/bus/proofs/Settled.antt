@@ -169,7 +169,7 @@ list-never-unsettled bus cards = go (isSenseless bus) (listsNoCard cards) (lists
     go false false false false false h = omega (arith, h)
 
 -- where nothing is wrong the state makes sense, and is in arbitration
-list-in-order : (bus : Bus) (cards : List ℕ) → listRefusal bus cards ≡ 0 → (makesSense bus ≡ true) × (bus .phase ≡ Phase.arbitration)
+pub list-in-order : (bus : Bus) (cards : List ℕ) → listRefusal bus cards ≡ 0 → (makesSense bus ≡ true) × (bus .phase ≡ Phase.arbitration)
 unfolding listRefusal firstOf
 list-in-order bus cards e =
     let both = go (makesSense bus) (listsNoCard cards) (listsUnfitted bus cards) (eqb (bus .phase) Phase.arbitration) (listsIdle bus cards) e in

@@ -1,2 +1,3 @@
 -- Laws that proofs of two functions cite.
+pub mod ClosingLaws
 pub mod SayingLaws

@@ -1,18 +1,24 @@
 -- What is put for a line, where there is room for the most that is wanted.
 use mathlib.Core.Path.{_≡_, refl, sym, subst, _∙_}
-use mathlib.Core.List.{List}
+use mathlib.Core.Bool.{Bool, true, false, cond}
+use mathlib.Core.List.{List, []}
 use Prim.Native.Nat.{ℕ, _≤_}
+use native.Mathlib.Omega.{arith}
 use borrow.Author.Tests.{eq-eqb, ne-eqb, le-leb}
+use lib.Dec.{eqb, leb}
 use lib.ListN.{length}
 use lib.Seq.{sets}
+use Rattle.words.proofs.TestLaws.{cond-same}
 use Rattle.judgement.specs.declared.event.Event.{Event}
 use Rattle.events.specs.declared.answers.Answer.{Answer}
 use Rattle.text.specs.AnswerLine.{answerLine, answerLength, bytesPut, printed}
 use Rattle.text.proofs.ReadingLaws.{answer-long, printed-fits, bytes-fit}
 use Rattle.pins.specs.Picture.{mostPictured, picturesOf, bytesPictured, pictured}
-use Rattle.session.specs.World.{wantsAnswers, wantedBy, mostSaid}
+use Rattle.session.specs.World.{wantsAnswers, wantsOutcomes, wantedBy, replyAs, mostSaid}
+use Rattle.session.specs.Feeding.{closedIn}
+use Rattle.session.specs.declared.state.Session.{Session}
 use Rattle.session.specs.declared.state.Wanted.{Wanted}
-use Rattle.session.specs.declared.state.Wanted.the-variants.{Answers, Pictures}
+use Rattle.session.specs.declared.state.Wanted.the-variants.{Answers, Pictures, Outcomes}
 
 -- ---- What a number asks for
 
@@ -20,9 +26,31 @@ pub wants-answers : (number : ℕ) → number ≡ wantsAnswers → wantedBy numb
 unfolding wantedBy
 wants-answers number is = rw (eq-eqb number wantsAnswers is) refl
 
-pub wants-pictures : (number : ℕ) → (number ≡ wantsAnswers → ⊥) → wantedBy number ≡ Pictures
+pub wants-outcomes : (number : ℕ) → number ≡ wantsOutcomes → wantedBy number ≡ Outcomes
 unfolding wantedBy
-wants-pictures number other = rw (ne-eqb number wantsAnswers other) refl
+wants-outcomes number is = rw (ne-eqb number wantsAnswers (λ e. omega (arith, is, e)), eq-eqb number wantsOutcomes is) refl
+
+pub wants-pictures : (number : ℕ) → (number ≡ wantsAnswers → ⊥) → (number ≡ wantsOutcomes → ⊥) → wantedBy number ≡ Pictures
+unfolding wantedBy
+wants-pictures number other neither = rw (ne-eqb number wantsAnswers other, ne-eqb number wantsOutcomes neither) refl
+
+-- only answers have something to say to a line that is no event
+pub no-reply : (number : ℕ) → (number ≡ wantsAnswers → ⊥) → (answer : Answer) → replyAs (wantedBy number) answer ≡ []
+unfolding wantedBy
+no-reply number other answer = rw (ne-eqb number wantsAnswers other) (go (eqb number wantsOutcomes))
+  where
+    go : (b : Bool) → replyAs (cond b Outcomes Pictures) answer ≡ []
+    go true = refl
+    go false = refl
+
+-- and only outcomes something at the end
+pub no-closing : (number : ℕ) → (number ≡ wantsOutcomes → ⊥) → (room : ℕ) (session : Session) → closedIn (wantedBy number) room session ≡ []
+unfolding wantedBy
+no-closing number other room session = rw (ne-eqb number wantsOutcomes other) (go (eqb number wantsAnswers))
+  where
+    go : (b : Bool) → closedIn (cond b Answers Pictures) room session ≡ []
+    go true = cond-same (leb (mostSaid Answers) room) []
+    go false = cond-same (leb (mostSaid Pictures) room) []
 
 -- ---- What is put
 

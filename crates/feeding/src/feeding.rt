@@ -10,6 +10,7 @@ ghost use Rattle.session.specs.World.{wantedBy};
 ghost use Rattle.session.specs.Feeding.{worldOf, takes, feedRefusal, refusedFed, takenFed, heldIn};
 ghost use Rattle.session.specs.Feeding.{fedOf, worldLeft, outLeft, textLeft};
 ghost use Rattle.session.specs.Feeding.{endedText, endedAt, finishedOf, finishedText, finishedOut, finishedWorld};
+use crate::closing::close;
 use crate::holding::hold;
 use crate::taking::take_lines;
 use bus::Bus;
@@ -114,7 +115,7 @@ fn feed_refusal(bus: Bus, text: &[u8], filled: usize, memory: &[u8], ports: &[u8
     }
 }
 
-// The end of the input ends the line that is held, as a newline would, unless one ends it already.
+// The end of the input ends the line that is held, as a newline would, unless one ends it already; what is written then stands behind it.
 pub fn finish(
     wanted: u8,
     session: Session,
@@ -138,7 +139,8 @@ pub fn finish(
     let refusal = feed_refusal(session.bus, text, held, memory, ports);
     if refusal == ACCEPTED {
         let filled = end_line(text, held);
-        take_in(wanted, session, text, filled, out, memory, ports)
+        let fed = take_in(wanted, session, text, filled, out, memory, ports);
+        close(wanted, fed, out)
     } else {
         refused_fed(refusal, session, held)
     }

@@ -1,4 +1,5 @@
 // A run of the program in calls, each with a piece of the text.
+mod closing;
 mod feeding;
 mod holding;
 mod saying;

@@ -1,4 +1,4 @@
-// What is written for a line, by what is wanted: answers or pictures.
+// What is written for a line, by what is wanted: answers, pictures, or nothing until the end.
 ghost use mathlib.Core.Path.{_≡_};
 ghost use Prim.Native.Nat.{_≤_};
 ghost use lib.ListN.{length};
@@ -10,16 +10,20 @@ use picturing::put_pictures;
 use pins::sizes::MOST_PICTURED;
 use printing::put_answer;
 use session::WANTS_ANSWERS;
+use session::WANTS_OUTCOMES;
 use stepping::bare_with;
 use text::ANSWER_LENGTH;
 use text::Fault;
+use text::OUTCOMES_LENGTH;
 
-// The most bytes that are written for a line.
+// The most bytes that are written at once.
 pub fn most_said(wanted: u8) -> usize
     ensures { λ r. ⌜ r ≡ mostSaid (wantedBy wanted) ⌝ }
 {
     if wanted == WANTS_ANSWERS {
         ANSWER_LENGTH
+    } else if wanted == WANTS_OUTCOMES {
+        OUTCOMES_LENGTH
     } else {
         MOST_PICTURED
     }
@@ -41,7 +45,7 @@ pub fn put_reply(wanted: u8, answer: Answer, out: &mut [u8]) -> usize
     if wanted == WANTS_ANSWERS {
         put_answer(answer, out)
     } else {
-        0
+        0 // it has no picture, and outcomes come at the end
     }
 }
 
@@ -53,6 +57,8 @@ pub fn put_event(wanted: u8, event: Event, answer: Answer, out: &mut [u8]) -> us
 {
     if wanted == WANTS_ANSWERS {
         put_answer(answer, out)
+    } else if wanted == WANTS_OUTCOMES {
+        0
     } else {
         put_pictures(event, answer, out)
     }

@@ -26,7 +26,7 @@ pub fn put_answer(answer: Answer, out: &mut [u8]) -> usize
     ensures left { λ _. ⌜ now (out .exit) ≡ printed answer (now (out .entry)) ⌝ }
 {
     if ANSWER_LENGTH <= out.len() {
-        put_standing(
+        put_numbers(
             &mut out[REFUSAL_AT..SIGNALS_AT],
             answer.refusal,
             answer.phase,
@@ -53,19 +53,20 @@ pub fn digit(n: u8) -> u8
     n % 16 + 0x30 + n % 16 / 10 * 7
 }
 
-// The line's first part: how the bus stands. It is lent that part, and each of its bytes is stored here.
-fn put_standing(part: &mut [u8], refusal: u8, phase: u8, granted: u8, lines: u8)
+// Four numbers of two digits each: the answer line begins with how the bus stands, and all of an outcome line but its newline is four of them.
+// It is lent the part that they fill, and each of its bytes is stored here.
+pub fn put_numbers(part: &mut [u8], first: u8, second: u8, third: u8, fourth: u8)
     requires { ⌜ length (now part) ≡ placeOf 4 answerWidths ⌝ }
-    ensures { λ _. ⌜ now (part .exit) ≡ digitsOf 2 refusal ++ digitsOf 2 phase ++ digitsOf 2 granted ++ digitsOf 2 lines ⌝ }
+    ensures { λ _. ⌜ now (part .exit) ≡ digitsOf 2 first ++ digitsOf 2 second ++ digitsOf 2 third ++ digitsOf 2 fourth ⌝ }
 {
-    part[REFUSAL_AT] = digit(refusal / 16);
-    part[REFUSAL_AT + 1] = digit(refusal);
-    part[PHASE_AT] = digit(phase / 16);
-    part[PHASE_AT + 1] = digit(phase);
-    part[GRANTED_AT] = digit(granted / 16);
-    part[GRANTED_AT + 1] = digit(granted);
-    part[LINES_AT] = digit(lines / 16);
-    part[LINES_AT + 1] = digit(lines);
+    part[0] = digit(first / 16);
+    part[1] = digit(first);
+    part[2] = digit(second / 16);
+    part[3] = digit(second);
+    part[4] = digit(third / 16);
+    part[5] = digit(third);
+    part[6] = digit(fourth / 16);
+    part[7] = digit(fourth);
 }
 
 // The rest of it: what was on the bus besides, and the newline.

@@ -1,4 +1,4 @@
-// The text programs: they read their input, hand the session what came, and write what is wanted, answers or pictures, to standard output.
+// The text programs: they read their input, hand the session what came, and write what is wanted, answers, pictures or outcomes, to standard output.
 ghost use Prim.Native.Nat.{_<_};
 ghost use mathlib.Core.Path.{_≡_};
 ghost use lib.ListN.{take};
@@ -13,7 +13,7 @@ use session::Stage;
 
 // A turn's end.
 struct Turn {
-    // There is more to come: nothing failed, and neither the input nor the run has ended.
+    // There is more to come: nothing failed, and the end was not yet told.
     goes_on: bool,
     // There was room for another line, so that nothing complete is held, and more has to be read.
     reads: bool,
@@ -55,7 +55,8 @@ fn take_turns(
     let mut held: usize = 0;
     let mut reads = true;
     while 0 < left {
-        let filled = fill(input, text, held, reads);
+        let stage = session.stage;
+        let filled = fill(input, stage, text, held, reads);
         let turn = take_turn(wanted, session, filled, text, out, memory, ports);
         session = turn.session;
         held = turn.held;
@@ -84,16 +85,15 @@ fn take_turn(
     let fed = take_filled(wanted, session, filled, text, out, memory, ports);
     let is_written = write_front(out, fed.written);
     let next = fed.session;
-    let stage = next.stage;
     Turn {
-        goes_on: is_written & !filled.failed & !filled.ended & !has_ended(stage),
+        goes_on: is_written & !filled.failed & !filled.ended,
         reads: has_room(wanted, out, fed.written),
         session: next,
         held: fed.held,
     }
 }
 
-// Once the input has ended nothing complete is held, and what is held is the unended last line.
+// Once the input has ended nothing complete is held, and what is held is the unended last line; once setup was refused, no line counts any more.
 fn take_filled(
     wanted: u8,
     session: Session,
@@ -118,10 +118,17 @@ fn has_ended(stage: Stage) -> bool {
     }
 }
 
-fn fill(input: i32, text: &mut [u8], held: usize, reads: bool) -> Filled
+// A refused setup line ends the run: nothing more is read, as if the input ended there.
+fn fill(input: i32, stage: Stage, text: &mut [u8], held: usize, reads: bool) -> Filled
     ensures { λ _. ⌜ take held (now (text .exit)) ≡ take held (now (text .entry)) ⌝ }
 {
-    if reads {
+    if has_ended(stage) {
+        Filled {
+            failed: false,
+            ended: true,
+            size: held,
+        }
+    } else if reads {
         read_behind(input, text, held)
     } else {
         Filled {

@@ -50,7 +50,7 @@ module _ (bus : Bus) (here : Arbitrates bus) (memory ports : List ℕ) (right : 
   accepted-settled still = acknowledge-refusal ∙ rw still
 
 -- the lines are settled at this number: an acknowledge grants that card
-grants-next : (bus : Bus) → Arbitrates bus → isSettled bus ≡ true → (card : ℕ) → linesOf bus ≡ card → (memory ports : List ℕ) → Right memory ports
+pub grants-next : (bus : Bus) → Arbitrates bus → isSettled bus ≡ true → (card : ℕ) → linesOf bus ≡ card → (memory ports : List ℕ) → Right memory ports
     → (refusalOn bus (call rightAcknowledge memory ports) ≡ Refusal.accepted)
     × ((busAfter bus (call rightAcknowledge memory ports) .phase ≡ Phase.granted) × (busAfter bus (call rightAcknowledge memory ports) .granted ≡ card))
 grants-next bus here still card lines memory ports right =

@@ -2,7 +2,7 @@
 use mathlib.Core.Path.{refl}
 use Rattle.words.specs.Below.{allBelow, orBelow, listBelow}
 use Rattle.words.specs.Among.{everyListed, isAmong, beside, whoHas}
-use Rattle.words.specs.First.{firstOf, leastBelow}
+use Rattle.words.specs.First.{firstOf, leastBelow, highestBelow}
 use Rattle.lines.specs.Look.{look}
 use Rattle.lines.specs.Arbitration.{everyContender, shown, looked, settled, afterLook}
 use Rattle.phases.specs.Signal.{signalsIn}
@@ -13,6 +13,7 @@ use Rattle.bus.specs.Steps.{afterLooksOf}
 use Rattle.bus.specs.Settle.{settledAfter, leadingLooks, neverSettles, settleRefusal, settleOf}
 use Rattle.judgement.specs.Judge.{refusalOf}
 use Rattle.events.specs.Step.{answerTo}
+use Rattle.outcome.specs.Outcomes.{outcomeRefusal, settledOutcome, outcomeOf}
 use Rattle.text.specs.Digits.{digitsOf}
 use Rattle.pins.specs.Pin.{pinTable}
 use Rattle.pins.specs.Moments.{momentsOf}
@@ -20,7 +21,8 @@ use Rattle.pins.specs.Picture.{levelsOf, drivenOf, linesFor}
 use Rattle.pins.specs.ReadAgain.{gathered, pictureIn}
 use Rattle.s100_c.specs.Layout.{stateBytes, busIn, answerBytes, answerIn}
 use Rattle.s100_c.specs.Calls.{stepAnswers, stepLeaves}
-use Rattle.s100_c.specs.Examples.{BytesInPlace, FieldsInPlace, SetupCalls, StepCalls, SettleCalls, PictureCalls}
+use Rattle.s100_c.specs.Outcomes.{whyAnswers, whyLeaves}
+use Rattle.s100_c.specs.Examples.{BytesInPlace, FieldsInPlace, SetupCalls, StepCalls, SettleCalls, WhyCalls, PictureCalls}
 
 pub bytes-in-place : BytesInPlace
 unfolding busIn stateBytes answerBytes answerIn
@@ -81,6 +83,22 @@ settle-calls = record {
   nineLeaves = refl;
   shortAnswers = refl;
   shortCounts = refl;
+}
+
+pub why-calls : WhyCalls
+unfolding busIn allBelow orBelow look everyContender shown looked settled someCard isWithin firstOf highestBelow everyListed drivingFits standingFits makesSense
+    outcomeRefusal settledOutcome outcomeOf whyAnswers whyLeaves
+why-calls = record {
+  nineLoses = refl;
+  nineAnswers = refl;
+  tenWins = refl;
+  tooSoon = refl;
+  tooSoonAnswers = refl;
+  noCard = refl;
+  shortPlace = refl;
+  shortPlaceLeft = refl;
+  longState = refl;
+  longStateLeft = refl;
 }
 
 pub picture-calls : PictureCalls

@@ -5,4 +5,5 @@ pub mod CallLaws
 pub mod ReadBack
 pub mod CallPromises
 pub mod OwnNumber
+pub mod OutcomePromises
 pub mod PicturePromises

@@ -22,12 +22,15 @@ use Rattle.judgement.specs.declared.event.Event.{Event}
 use Rattle.events.specs.Machine.{Machine}
 use Rattle.events.specs.Step.{refusalIn}
 use Rattle.events.proofs.Refused.{answers-refusal}
+use Rattle.outcome.specs.Outcomes.{outcomeReasons, outcomeRefusal, figuresFor}
+use Rattle.outcome.proofs.Refused.{answer-is}
 use Rattle.text.specs.Digits.{isDigits}
 use Rattle.text.proofs.FaultLaws.{by-fault}
 use Rattle.pins.specs.Picture.{pictureDigits}
 use Rattle.pins.specs.ReadAgain.{pictureIn}
 use Rattle.pins.proofs.DigitLaws.{pictures-fit}
 use Rattle.s100_c.specs.Layout.{isState, busIn, answerIn}
+use Rattle.s100_c.specs.Outcomes.{whyFits, whyAnswers}
 use Rattle.s100_c.specs.Pictures.{picturesFor, pictureFits, isSeen}
 use Rattle.s100_c.specs.Calls.{setupFits, machineIn, placesFit}
 use Rattle.s100_c.specs.Promises.{WrongLengthIsOwn}
@@ -57,12 +60,17 @@ read-small line =
     rw bad (by-fault pictureDigits line (λ f. f .refusal < wrongLength) (λ right. lit< tt) (λ other. lit< tt) (λ size first. lit< tt)))
     (true-or-false (isDigits pictureDigits line))
 
+outcome-small : (bus : Bus) (card : ℕ) → figuresFor bus card .answer < wrongLength
+unfolding outcomeRefusal
+outcome-small bus card = rw (answer-is bus card) (first-below wrongLength (outcomeReasons bus card) (lit< tt) refl)
+
 -- so a number that is as large tells that a length was wrong
 told : (fits : Bool) {r n : ℕ} → (fits ≡ true → r ≡ n) → n < wrongLength → r ≡ wrongLength → fits ≡ false
 told true same low e = absurd (omega (arith, same refl, low, e))
 told false same low e = refl
 
 pub wrong-length-is-own : WrongLengthIsOwn
+unfolding whyAnswers
 wrong-length-is-own = (
   λ given state. told (setupFits given state) (λ fits. setup-is-the-setup given state fits .0) (setup-small given),
   (
@@ -75,7 +83,11 @@ wrong-length-is-own = (
         λ kind address answer place.
             told (pictureFits answer place) {n = length (picturesFor kind address answer)} (λ fits. rw fits refl)
             (let most = pictures-fit (eventOf kind 0 address 0) (answerIn answer) in omega (arith, most)),
-        λ line place. told (isSeen place) {n = pictureIn line .refusal} (λ fits. rw fits refl) (read-small line),
+        (
+          λ line place. told (isSeen place) {n = pictureIn line .refusal} (λ fits. rw fits refl) (read-small line),
+          λ state card place.
+              told (whyFits state place) {n = figuresFor (busIn state) card .answer} (λ fits. rw fits refl) (outcome-small (busIn state) card),
+        ),
       ),
     ),
   ),

@@ -29,6 +29,7 @@ use Rattle.s100_c.specs.Calls.{
   entryOf,
   isSensible,
 }
+use Rattle.s100_c.specs.Outcomes.{whyAnswers, whyLeaves}
 use Rattle.s100_c.specs.Pictures.{pictureAnswers, pictureLeaves, readAnswers, readLeaves}
 
 -- ---- The layout: at every place the place's own number
@@ -142,6 +143,23 @@ pub record SettleCalls : Type 0 where
   pub nineLeaves : settleLeaves fourNineTen nine ≡ fourNineTen
   pub shortAnswers : settleAnswers (replicate (stateSize - 1) 0) twelve ≡ wrongLength
   pub shortCounts : settleCounts (replicate (stateSize - 1) 0) twelve 77 ≡ 77
+
+-- ---- The same cards, settled (02, CR 4)
+
+abbrev pub settledThree : List ℕ
+settledThree = 0xFF ∷ 0xFF ∷ [] ++ replicate 16 1 ++ 0x01 ∷ 0x06 ∷ 0x10 ∷ [] ++ replicate 9 0 ++ 8 ∷ 10 ∷ [] ++ replicate 5 0 ++ 0xFF ∷ []
+
+pub record WhyCalls : Type 0 where
+  pub nineLoses : whyLeaves settledThree 9 (replicate 4 0x55) ≡ 0x00 ∷ 0x09 ∷ 0x01 ∷ 0x0A ∷ []
+  pub nineAnswers : whyAnswers settledThree 9 (replicate 4 0x55) ≡ Refusal.accepted
+  pub tenWins : whyLeaves settledThree 10 (replicate 4 0x55) ≡ 0x00 ∷ 0x0A ∷ 0xFF ∷ 0xFF ∷ []
+  pub tooSoon : whyLeaves fourNineTen 9 (replicate 4 0x55) ≡ 0x08 ∷ 0x09 ∷ 0xFF ∷ 0xFF ∷ []
+  pub tooSoonAnswers : whyAnswers fourNineTen 9 (replicate 4 0x55) ≡ Refusal.unsettled
+  pub noCard : whyLeaves settledThree 0x10 (replicate 4 0x55) ≡ 0x03 ∷ 0x10 ∷ 0xFF ∷ 0xFF ∷ []
+  pub shortPlace : whyAnswers settledThree 9 (replicate 3 0x55) ≡ wrongLength
+  pub shortPlaceLeft : whyLeaves settledThree 9 (replicate 3 0x55) ≡ replicate 3 0x55
+  pub longState : whyAnswers (settledThree ++ 0 ∷ []) 9 (replicate 4 0x55) ≡ wrongLength
+  pub longStateLeft : whyLeaves (settledThree ++ 0 ∷ []) 9 (replicate 4 0x55) ≡ replicate 4 0x55
 
 -- ---- Pictures: a reset leaves a free bus
 

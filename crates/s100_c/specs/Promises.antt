@@ -17,6 +17,7 @@ use Rattle.judgement.specs.declared.event.Event.{Event}
 use Rattle.events.specs.Step.{after, answerTo}
 use Rattle.events.specs.declared.answers.Answer.{Answer}
 use Rattle.runs.specs.Run.{afterAll}
+use Rattle.outcome.specs.Outcomes.{figures, figuresFor}
 use Rattle.text.specs.Promises.{FirstWrong}
 use Rattle.pins.specs.Picture.{picturesOf}
 use Rattle.pins.specs.ReadAgain.{seen, pictureIn}
@@ -34,6 +35,7 @@ use Rattle.s100_c.specs.Calls.{
   settleLeaves,
   settleCounts,
 }
+use Rattle.s100_c.specs.Outcomes.{whyFits, whyAnswers, whyLeaves}
 use Rattle.s100_c.specs.Pictures.{pictureFits, pictureAnswers, pictureLeaves, isSeen, readAnswers, readLeaves}
 use Rattle.s100_c.specs.Run.{Placed, bytesAfter, callsTaken}
 
@@ -90,7 +92,8 @@ WrongLengthIsOwn =
     × (((given : Lent) (event : Event) → stepAnswers given event ≡ wrongLength → placesFit given ≡ false)
     × (((state cards : List ℕ) → settleAnswers state cards ≡ wrongLength → isState state ≡ false)
     × (((kind address : ℕ) (answer place : List ℕ) → pictureAnswers kind address answer place ≡ wrongLength → pictureFits answer place ≡ false)
-    × ((line place : List ℕ) → readAnswers line place ≡ wrongLength → isSeen place ≡ false))))
+    × (((line place : List ℕ) → readAnswers line place ≡ wrongLength → isSeen place ≡ false)
+    × ((state : List ℕ) (card : ℕ) (place : List ℕ) → whyAnswers state card place ≡ wrongLength → whyFits state place ≡ false)))))
 
 -- ---- Else a call is the model's: decoding what it leaves gives what the model's function gives.
 
@@ -134,6 +137,21 @@ StepRefusedKeeps =
 abbrev pub SettleRefusedKeepsBytes : Type 0
 SettleRefusedKeepsBytes =
     (state cards : List ℕ) → AreBytes state → (settleAnswers state cards ≡ Refusal.accepted → ⊥) → settleLeaves state cards ≡ state
+
+-- ---- Outcomes
+
+-- With a state and a place for the four bytes the call is the model's: answer, card, line and rival.
+abbrev pub WhyIsTheOutcome : Type 0
+WhyIsTheOutcome =
+    (state place : List ℕ) (card answer line rival : ℕ) → length state ≡ 38 → length place ≡ 4
+    → figuresFor (busIn state) card ≡ figures answer card line rival
+    → (whyAnswers state card place ≡ answer) × (whyLeaves state card place ≡ answer ∷ card ∷ line ∷ rival ∷ [])
+
+-- With a wrong length nothing is written.
+abbrev pub WhyMisfits : Type 0
+WhyMisfits =
+    (state place : List ℕ) (card : ℕ) → ((length state ≡ 38) × (length place ≡ 4) → ⊥)
+    → (whyAnswers state card place ≡ wrongLength) × (whyLeaves state card place ≡ place)
 
 -- ---- Pictures
 

@@ -2,14 +2,14 @@
 use mathlib.Core.Path.{_≡_, refl, sym, ap, subst, _∙_}
 use mathlib.Core.Logic.{_⊎_, inl, inr, ⊎-elim}
 use mathlib.Core.Bool.{Bool, true, false, not, _&&_}
-use mathlib.Core.List.{List, [], _∷_, _++_}
+use mathlib.Core.List.{List, [], _∷_, _++_, append-nil}
 use Prim.Native.Nat.{ℕ, zero, suc, _+_, _-_, _<_, _≤_}
 use native.Mathlib.Omega.{arith}
-use lib.Dec.{eqb, ltb}
+use lib.Dec.{eqb, leb, ltb}
 use lib.ListN.{length, getD, take, drop, set, length-append, length-drop}
 use lib.Seq.{take-append-seam, take-suc-set, getD-take, length-take-le}
 use borrow.Author.Tests.{eq-eqb, ne-eqb, leb-true, le-leb, lt-ltb, le-ltb}
-use Rattle.words.proofs.TestLaws.{true-or-false}
+use Rattle.words.proofs.TestLaws.{true-or-false, cond-same}
 use Rattle.words.proofs.PartLaws.{put-front}
 use Rattle.bus.specs.Refusal as Refusal
 use Rattle.text.specs.Newlines.{newline, hasNewline, firstLine, restOf, textLines}
@@ -20,8 +20,8 @@ use Rattle.text.proofs.NewlineLaws.{none-at}
 use Rattle.text.proofs.LinePromises.{taken-fits, held-is-short, front-has-none, line-unended, ended-line, no-newline, last-of, last-none}
 use Rattle.text.proofs.ChunkLaws.{chunks-say-the-same, fed-kept}
 use Rattle.text.proofs.ReadingLaws.{taken-next, taken-none, unended-stops, rest-length, taken-rest, answer-long}
-use Rattle.session.specs.World.{World, says, turns, mostSaid, answering, saysBy, machineOf, setupAnswer, setUpBy, freshWorld}
-use Rattle.session.specs.Feeding.{takes, hasRoom, feedRefusal, takesLast, wantsNewline, endedText, endedAt}
+use Rattle.session.specs.World.{World, closing, says, turns, mostSaid, answering, saysBy, machineOf, setupAnswer, setUpBy, freshWorld}
+use Rattle.session.specs.Feeding.{takes, hasRoom, feedRefusal, closedIn, closed, takesLast, wantsNewline, endedText, endedAt}
 use Rattle.session.specs.Output.{answers, ranIn}
 use Rattle.session.specs.Promises.{
   AnyChunks,
@@ -39,13 +39,14 @@ use Rattle.session.specs.Promises.{
   WholeRun,
 }
 use Rattle.session.specs.declared.state.Stage.the-variants.{Awaiting, Running}
+use Rattle.session.specs.declared.state.Session.{Session}
 use Rattle.session.specs.declared.state.Wanted.{Wanted}
-use Rattle.session.specs.declared.state.Wanted.the-variants.{Answers}
+use Rattle.session.specs.declared.state.Wanted.the-variants.{Answers, Pictures, Outcomes}
 use Rattle.session.proofs.CallLaws.{held-within}
 use Rattle.session.proofs.SoundLaws.{Sound, sound-turns, sound-fresh}
-use Rattle.session.proofs.LoopLaws.{event-answered, says-at-most, some-said}
+use Rattle.session.proofs.LoopLaws.{event-answered, line-at-most, closing-at-most, some-said}
 use Rattle.session.proofs.FeedLaws.{call-accepted}
-use Rattle.session.proofs.RunPromises.{cut-changes-nothing, one-said, none-said}
+use Rattle.session.proofs.RunPromises.{cut-changes-nothing, one-said, none-said, quiet-until-the-end}
 
 -- ---- Chunks
 
@@ -53,7 +54,39 @@ pub any-chunks : AnyChunks
 any-chunks wanted calls = chunks-say-the-same World (answering wanted) (cut-changes-nothing wanted) freshWorld calls
 
 said-fits : (wanted : Wanted) (size : ℕ) (w : World) (text : List ℕ) → length (takes wanted size w text .said) ≤ size
-said-fits wanted size w text = taken-fits World (answering wanted) (says-at-most wanted) size w text .0
+said-fits wanted size w text = taken-fits World (answering wanted) (line-at-most wanted) size w text .0
+
+-- ---- The closing
+
+-- it is written where it has its room
+closed-fits : (wanted : Wanted) (size : ℕ) (t : Taken World) → length (t .said) ≤ size → length (closed wanted size t .said) ≤ size
+closed-fits wanted size t fits = go (leb (mostSaid wanted) (size - length (t .said))) refl
+  where
+    go : (b : Bool) → leb (mostSaid wanted) (size - length (t .said)) ≡ b → length (closed wanted size t .said) ≤ size
+    go true e =
+        let room = leb-true (mostSaid wanted) (size - length (t .said)) e in
+        rw e (omega (arith, fits, room, length-append (t .said) (closing wanted (t .state .session)), closing-at-most wanted (t .state .session)))
+    go false e = rw e (omega (arith, fits, length-append {A = ℕ} (t .said) []))
+
+-- answers and pictures have none
+nothing-closes : (wanted : Wanted) → (wanted ≡ Outcomes → ⊥) → (room : ℕ) (session : Session) → closedIn wanted room session ≡ []
+nothing-closes Answers other room session = cond-same (leb (mostSaid Answers) room) []
+nothing-closes Pictures other room session = cond-same (leb (mostSaid Pictures) room) []
+nothing-closes Outcomes other room session = absurd (other refl)
+
+-- outcomes have it in a room of the most, since nothing is written before it
+closing-fits : (wanted : Wanted) (w : World) (line : List ℕ) (size : ℕ) → mostSaid wanted ≤ size → (session : Session)
+    → closedIn wanted (size - length (says wanted w line)) session ≡ closing wanted session
+closing-fits Answers w line size room session = cond-same (leb (mostSaid Answers) (size - length (says Answers w line))) []
+closing-fits Pictures w line size room session = cond-same (leb (mostSaid Pictures) (size - length (says Pictures w line))) []
+closing-fits Outcomes w line size room session =
+    let none = ap length (quiet-until-the-end w line) in
+    rw (le-leb (mostSaid Outcomes) (size - length (says Outcomes w line)) (omega (arith, room, none))) refl
+
+last-fits : (wanted : Wanted) (size : ℕ) (w : World) (text : List ℕ) (held : ℕ) → length (takesLast wanted size w text held .said) ≤ size
+last-fits wanted size w text held =
+    let ended = take (endedAt text held) (endedText text held) in
+    closed-fits wanted size (takes wanted size w ended) (said-fits wanted size w ended)
 
 -- ---- In place
 
@@ -71,7 +104,7 @@ only-front-written wanted w text filled out =
     (λ yes. rw yes (
       put-front out (takes wanted (length out) w (take filled text) .said) (said-fits wanted (length out) w (take filled text)) .1,
       put-front out (takesLast wanted (length out) w text filled .said)
-          (said-fits wanted (length out) w (take (endedAt text filled) (endedText text filled))) .1,
+          (last-fits wanted (length out) w text filled) .1,
     ))
     (λ no. rw no (refl, refl))
     (true-or-false (eqb (feedRefusal (w .session .bus) (w .memory) (w .ports) text filled) Refusal.accepted))
@@ -121,7 +154,11 @@ pub finish-refused : FinishRefused
 finish-refused wanted w text held out n given other = rw (given, ne-eqb n Refusal.accepted other) (refl, (refl, (refl, refl)))
 
 pub nothing-to-end : NothingToEnd
-nothing-to-end wanted w text held out none = rw (asked none) (refl, (refl, (refl, refl)))
+nothing-to-end wanted w text held out other none =
+    let t = takes wanted (length out) w (take held text) in
+    let same : t .said ++ closedIn wanted (length out - length (t .said)) (t .state .session) ≡ t .said =
+    ap (λ (l : List ℕ). t .said ++ l) (nothing-closes wanted other (length out - length (t .said)) (t .state .session)) ∙ append-nil (t .said) in
+    rw (asked none, same) (refl, (refl, (refl, refl)))
   where
     asked : (held ≡ 0) ⊎ ((length text ≤ held) ⊎ (getD text (held - 1) 0 ≡ newline)) → wantsNewline text held ≡ false
     asked (inl empty) = rw empty
@@ -161,20 +198,31 @@ nothing-complete-held wanted w text filled out given room =
     let left : hasRoom wanted (length out) (length (t .said)) ≡ true = rw yes at room in
     rw (in-place .1 .0) (
     held-none (t .rest)
-    (taken-fits World (answering wanted) (says-at-most wanted) (length out) w (take filled text) .1
+    (taken-fits World (answering wanted) (line-at-most wanted) (length out) w (take filled text) .1
     (leb-true (mostSaid wanted) (length out - length (t .said)) left)))
 
 -- ---- The last line
 
--- one line with its newline, taken off where there is room, says what the line alone is answered
+-- one line with its newline, taken off where there is room: what is said to it, and where it leads
 last-takes : (wanted : Wanted) (size : ℕ) (w : World) (line : List ℕ) → hasNewline line ≡ false → (mostSaid wanted) ≤ size
-    → takes wanted size w (line ++ newline ∷ []) .said ≡ answers wanted w (line ∷ [])
+    → (takes wanted size w (line ++ newline ∷ []) .said ≡ says wanted w line) × (takes wanted size w (line ++ newline ∷ []) .state ≡ turns w line)
 last-takes wanted size w line none room =
     let ended = ended-line line none in
     let left = size - length (says wanted w line) in
     rw (taken-next (answering wanted) size w (line ++ newline ∷ []) (ended .0) room, ended .1 .0, ended .1 .1) (
     rw (taken-none (answering wanted) left (turns w line) [] (unended-stops (answering wanted) left [] no-newline)) (
-    sym (one-said wanted w line [] ∙ ap (λ (l : List ℕ). says wanted w line ++ l) (none-said wanted (turns w line)))))
+      append-nil (says wanted w line),
+      refl,
+    ))
+
+-- and with the closing what the line alone is answered
+last-closed : (wanted : Wanted) (size : ℕ) (w : World) (line : List ℕ) → hasNewline line ≡ false → (mostSaid wanted) ≤ size
+    → closed wanted size (takes wanted size w (line ++ newline ∷ [])) .said ≡ answers wanted w (line ∷ [])
+last-closed wanted size w line none room =
+    let taken = last-takes wanted size w line none room in
+    rw (taken .0, taken .1) (
+    ap (λ (l : List ℕ). says wanted w line ++ l) (closing-fits wanted w line size room (turns w line .session) ∙ sym (none-said wanted (turns w line)))
+    ∙ sym (one-said wanted w line []))
 
 -- the text that the end of the input has ended
 ended-take : (text : List ℕ) (held : ℕ) → 0 < held → held < length text → hasNewline (take held text) ≡ false
@@ -191,18 +239,19 @@ finished-said : (wanted : Wanted) (w : World) (text : List ℕ) (held size : ℕ
     → mostSaid wanted ≤ size
     → takesLast wanted size w text held .said ≡ answers wanted w (textLines (take held text))
 finished-said wanted w text zero size within none room =
-    ap (λ (t : Taken World). t .said) (taken-none (answering wanted) size w [] (unended-stops (answering wanted) size [] no-newline))
+    ap (λ (t : Taken World). closed wanted size t .said) (taken-none (answering wanted) size w [] (unended-stops (answering wanted) size [] no-newline))
+    ∙ rw (le-leb (mostSaid wanted) (size - 0) (omega (arith, room))) refl
     ∙ sym (ap (answers wanted w) (line-unended [] no-newline ∙ last-none) ∙ none-said wanted w)
 finished-said wanted w [] (suc k) size within none room = absurd (omega (arith, within))
 finished-said wanted w (b ∷ text) (suc k) size within none room =
-    ap (λ (l : List ℕ). takes wanted size w l .said) (ended-take (b ∷ text) (suc k) (omega arith) within none)
-    ∙ last-takes wanted size w (take (suc k) (b ∷ text)) none room
+    ap (λ (l : List ℕ). closed wanted size (takes wanted size w l) .said) (ended-take (b ∷ text) (suc k) (omega arith) within none)
+    ∙ last-closed wanted size w (take (suc k) (b ∷ text)) none room
     ∙ ap (answers wanted w) (sym (line-unended (take (suc k) (b ∷ text)) none ∙ last-of b (take k text)))
 
 pub finished-in-place : FinishedInPlace
 finished-in-place wanted w text held out given within none room =
     rw (eq-eqb (feedRefusal (w .session .bus) (w .memory) (w .ports) text held) Refusal.accepted given) (
-    put-front out (takesLast wanted (length out) w text held .said) (said-fits wanted (length out) w (take (endedAt text held) (endedText text held))) .0
+    put-front out (takesLast wanted (length out) w text held .said) (last-fits wanted (length out) w text held) .0
     ∙ finished-said wanted w text held (length out) within none room)
 
 -- ---- A whole run

@@ -3,26 +3,41 @@ use mathlib.Core.Path.{_≡_, refl, sym, ap, subst, _∙_}
 use mathlib.Core.Logic.{⊎-elim}
 use mathlib.Core.Bool.{Bool, true, false, cond, not, _&&_}
 use mathlib.Core.List.{List, _++_}
-use Prim.Native.Nat.{ℕ, _-_, _≤_}
+use Prim.Native.Nat.{ℕ, _+_, _-_, _≤_}
 use native.Mathlib.Omega.{arith}
 use lib.Dec.{eqb, ltb}
-use lib.ListN.{length, getD, take, drop, length-set}
-use lib.Seq.{sets, length-take-le}
+use lib.ListN.{length, getD, take, drop, length-set, length-append}
+use lib.Seq.{sets, length-sets, length-take-le}
 use borrow.Author.Tests.{ltb-true, ltb-false}
 use Rattle.words.proofs.TestLaws.{true-or-false, both-of}
+use Rattle.words.proofs.PartLaws.{sets-append}
 use Rattle.bus.specs.Refusal as Refusal
 use Rattle.bus.specs.Sense.{makesSense}
 use Rattle.bus.specs.declared.state.Bus.{Bus}
 use Rattle.judgement.specs.Refusals.{hasWrongBuffers}
 use Rattle.text.specs.Newlines.{newline}
-use Rattle.text.specs.Reading.{heldOf}
+use Rattle.text.specs.Reading.{Taken, heldOf}
+use Rattle.text.proofs.LinePromises.{taken-fits}
 use Rattle.text.proofs.ReadingLaws.{taken-rest, taken-used}
 use Rattle.session.specs.World.{World, answering}
-use Rattle.session.specs.Feeding.{takes, linesTaken, feedRefusal, takenFed, heldIn, wantsNewline, endedText, endedAt}
+use Rattle.session.specs.Feeding.{
+  takes,
+  linesTaken,
+  feedRefusal,
+  takenFed,
+  heldIn,
+  wantsNewline,
+  endedText,
+  endedAt,
+  closedIn,
+  closed,
+  withMore,
+}
 use Rattle.session.specs.declared.state.Wanted.{Wanted}
 use Rattle.session.specs.declared.calls.Fed.{Fed}
 use Rattle.session.specs.declared.calls.TakenLines.{TakenLines}
 use Rattle.session.proofs.LineLaws.{TakenAs}
+use Rattle.session.proofs.LoopLaws.{line-at-most}
 
 -- an accepted call has sound buffers and a sensible state
 pub record CallAccepted (bus : Bus) (m p text : List ℕ) (filled : ℕ) : Type 0 where
@@ -92,10 +107,67 @@ module _ (wanted : Wanted) where
       fed-by : TakenLines → ℕ → Fed
       fed-by l n = record { refusal = Refusal.accepted; session = l .session; held = n; written = l .written }
 
-  -- what finish owes, from what take_in left of the text that was ended
+  -- the same with the closing behind it
+  abbrev pub FedClosed : World → List ℕ → List ℕ → ℕ → Fed → List ℕ → List ℕ → List ℕ → List ℕ → Type 0
+  FedClosed w text out filled fed text' out' m' p' =
+      let t = closed wanted (length out) (takes wanted (length out) w (take filled text)) in
+      (fed ≡ takenFed t)
+      × ((text' ≡ heldIn text (t .rest)) × ((out' ≡ sets out 0 (t .said)) × ((m' ≡ t .state .memory) × (p' ≡ t .state .ports))))
+
+  -- what close owes, in the place that was written to so far
+  abbrev pub ClosedAs : Fed → List ℕ → Fed → List ℕ → Type 0
+  ClosedAs fed out fed' out' =
+      let more = closedIn wanted (length out - fed .written) (fed .session) in
+      (fed' ≡ withMore fed (length more)) × (out' ≡ sets out (fed .written) more)
+
+  pub then-closed : (w : World) (text out : List ℕ) (filled : ℕ) (fed : Fed) (text' out' m' p' : List ℕ) (fed' : Fed) (out'' : List ℕ)
+      → FedTaken w text out filled fed text' out' m' p' → ClosedAs fed out' fed' out'' → FedClosed w text out filled fed' text' out'' m' p'
+  then-closed w text out filled fed text' out' m' p' fed' out'' taken close =
+      let t = takes wanted (length out) w (take filled text) in
+      let more = closedIn wanted (length out - length (t .said)) (t .state .session) in
+      let long : length out' ≡ length out = ap length (taken .1 .1 .0) ∙ length-sets out 0 (t .said) in
+      let behind : length (t .said) ≡ 0 + length (t .said) = omega arith in
+      let so : ClosedAs (takenFed t) out' fed' out'' = subst (λ (f : Fed). ClosedAs f out' fed' out'') (taken .0) close in
+      let is : (fed' ≡ withMore (takenFed t) (length more)) × (out'' ≡ sets out' (length (t .said)) more) =
+      subst (λ (n : ℕ). Closes t n fed' out' out'') long so in (
+        is .0 ∙ ap (λ (n : ℕ). told t n) (sym (length-append (t .said) more)),
+        (
+          taken .1 .0,
+          (
+            is .1
+                ∙ ap (λ (l : List ℕ). sets l (length (t .said)) more) (taken .1 .1 .0)
+                ∙ ap (λ (n : ℕ). sets (sets out 0 (t .said)) n more) behind
+                ∙ sym (sets-append (t .said) more out 0),
+            taken .1 .1 .1,
+          ),
+        ),
+      )
+    where
+      told : Taken World → ℕ → Fed
+      told t n = record { refusal = Refusal.accepted; session = t .state .session; held = length (heldOf (t .rest)); written = n }
+
+      Closes : Taken World → ℕ → Fed → List ℕ → List ℕ → Type 0
+      Closes t size fed' out' out'' =
+          let more = closedIn wanted (size - length (t .said)) (t .state .session) in
+          (fed' ≡ withMore (takenFed t) (length more)) × (out'' ≡ sets out' (length (t .said)) more)
+
+  -- what finish owes, from what take_in and close left of the text that was ended
   pub finished : (w : World) (text out : List ℕ) (held : ℕ) (text₁ : List ℕ) (filled : ℕ) (fed : Fed) (text' out' m' p' : List ℕ)
-      → filled ≡ endedAt text held → text₁ ≡ endedText text held → FedTaken w text₁ out filled fed text' out' m' p'
-      → FedTaken w (endedText text held) out (endedAt text held) fed text' out' m' p'
+      → filled ≡ endedAt text held → text₁ ≡ endedText text held → FedClosed w text₁ out filled fed text' out' m' p'
+      → FedClosed w (endedText text held) out (endedAt text held) fed text' out' m' p'
   finished w text out held text₁ filled fed text' out' m' p' at same taken =
-      subst (λ (l : List ℕ). FedTaken w l out (endedAt text held) fed text' out' m' p') same
-      (subst (λ (n : ℕ). FedTaken w text₁ out n fed text' out' m' p') at taken)
+      subst (λ (l : List ℕ). FedClosed w l out (endedAt text held) fed text' out' m' p') same
+      (subst (λ (n : ℕ). FedClosed w text₁ out n fed text' out' m' p') at taken)
+
+  -- what was written stands within the place
+  pub written-within : (w : World) (text out : List ℕ) (filled : ℕ) (fed : Fed) (text' out' m' p' : List ℕ)
+      → FedTaken w text out filled fed text' out' m' p' → fed .written ≤ length out'
+  written-within w text out filled fed text' out' m' p' taken =
+      let t = takes wanted (length out) w (take filled text) in
+      omega (
+        arith,
+        ap (λ (f : Fed). f .written) (taken .0),
+        ap length (taken .1 .1 .0),
+        length-sets out 0 (t .said),
+        taken-fits World (answering wanted) (line-at-most wanted) (length out) w (take filled text) .0,
+      )

@@ -15,17 +15,20 @@ use Rattle.text.specs.Digits.{isDigits}
 use Rattle.text.specs.Faults.{faultOf}
 use Rattle.text.specs.Frames.{eventDigits, eventIn, setupIn}
 use Rattle.text.specs.Newlines.{hasNewline, firstLine}
+use Rattle.text.specs.OutcomeLine.{outcomesLength}
 use Rattle.text.specs.Reading.{lineOff}
 use Rattle.text.proofs.ReadingLaws.{answer-long}
 use Rattle.text.proofs.TakingLaws.{Going, Gone, going-start, going-on, gone-unended, gone-full, some-line, no-line, line-used, part-behind, home}
+use Rattle.text.proofs.OutcomeLines.{outcomes-long}
 use Rattle.pins.proofs.DigitLaws.{pictures-fit}
-use Rattle.session.specs.World.{World, world, saysBy, says, mostSaid, answering, eventSaid, machineOf, setupAnswer, setUpBy, faultAnswer}
+use Rattle.session.specs.World.{World, world, outcomesLeft, closing, saysBy, says, mostSaid, answering, eventSaid, machineOf, setupAnswer, setUpBy, faultAnswer}
 use Rattle.session.specs.Feeding.{takes, takesFirst, told}
 use Rattle.session.specs.Promises.{SaysAtMost}
 use Rattle.session.specs.declared.state.Stage.{Stage}
 use Rattle.session.specs.declared.state.Stage.the-variants.{Awaiting, Running, Ended}
+use Rattle.session.specs.declared.state.Session.{Session}
 use Rattle.session.specs.declared.state.Wanted.{Wanted}
-use Rattle.session.specs.declared.state.Wanted.the-variants.{Answers, Pictures}
+use Rattle.session.specs.declared.state.Wanted.the-variants.{Answers, Pictures, Outcomes}
 use Rattle.session.specs.declared.calls.TakenLines.{TakenLines}
 use Rattle.session.proofs.LineLaws.{TakenAs}
 use Rattle.session.proofs.SoundLaws.{Sound, sound-turns}
@@ -34,6 +37,7 @@ use Rattle.session.proofs.SoundLaws.{Sound, sound-turns}
 pub some-said : (wanted : Wanted) → 0 < mostSaid wanted
 some-said Answers = omega arith
 some-said Pictures = omega arith
+some-said Outcomes = omega arith
 
 -- an event's line has an answer or, at most, two pictures
 event-at-most : (wanted : Wanted) (m : Machine) (line : List ℕ) → length (eventSaid wanted m line) ≤ mostSaid wanted
@@ -44,6 +48,8 @@ event-at-most wanted m line = go wanted (isDigits eventDigits line) refl
     go Answers false e = rw e (omega (arith, answer-long (faultAnswer (faultOf eventDigits line))))
     go Pictures true e = rw e (pictures-fit (eventIn line) (answerTo m (eventIn line)))
     go Pictures false e = rw e (omega arith)
+    go Outcomes true e = rw e (omega arith)
+    go Outcomes false e = rw e (omega arith)
 
 pub event-answered : (m : Machine) (line : List ℕ) → 0 < length (eventSaid Answers m line)
 event-answered m line =
@@ -53,15 +59,31 @@ event-answered m line =
     (true-or-false (isDigits eventDigits line))
 
 -- for a line no more is written than the most
-pub says-at-most : SaysAtMost
+pub line-at-most : (wanted : Wanted) (w : World) (line : List ℕ) → length (says wanted w line) ≤ mostSaid wanted
 unfolding saysBy
-says-at-most wanted w line = go (w .session .stage) refl wanted
+line-at-most wanted w line = go (w .session .stage) refl wanted
   where
     go : (stage : Stage) → w .session .stage ≡ stage → (wanted : Wanted) → length (says wanted w line) ≤ mostSaid wanted
     go Awaiting e Answers = rw e (omega (arith, answer-long (setupAnswer (setupIn line .fault) (setUpBy (setupIn line)))))
     go Awaiting e Pictures = rw e (omega arith)
+    go Awaiting e Outcomes = rw e (omega arith)
     go Running e wanted = rw e (event-at-most wanted (machineOf w) line)
     go Ended e wanted = rw e (omega arith)
+
+-- nor at the end
+left-at-most : (stage : Stage) (bus : Bus) → length (outcomesLeft stage bus) ≤ outcomesLength
+unfolding outcomesLeft
+left-at-most Awaiting bus = omega arith
+left-at-most Running bus = omega (arith, outcomes-long bus 16)
+left-at-most Ended bus = omega (arith, outcomes-long bus 16)
+
+pub closing-at-most : (wanted : Wanted) (session : Session) → length (closing wanted session) ≤ mostSaid wanted
+closing-at-most Answers session = omega arith
+closing-at-most Pictures session = omega arith
+closing-at-most Outcomes session = left-at-most (session .stage) (session .bus)
+
+pub says-at-most : SaysAtMost
+says-at-most wanted w = (line-at-most wanted w, closing-at-most wanted (w .session))
 
 positive : (n : ℕ) → (n ≡ 0 → ⊥) → 0 < n
 positive zero some = absurd (some refl)
@@ -127,7 +149,7 @@ module _ (wanted : Wanted) where
           omega (arith, ap (λ (l : TakenLines). l .written) (line-told .0), said-most (true-or-false (hasNewline rest)))
         where
           said-most : (hasNewline rest ≡ true) ⊎ (hasNewline rest ≡ false) → length (takesFirst wanted (world stage bus m p) rest .said) ≤ (mostSaid wanted)
-          said-most = ⊎-elim (λ has. rw has (says-at-most wanted (world stage bus m p) (firstLine rest))) (λ none. rw none (omega arith))
+          said-most = ⊎-elim (λ has. rw has (line-at-most wanted (world stage bus m p) (firstLine rest))) (λ none. rw none (omega arith))
 
       pub rest-less : (line .used ≡ 0 → ⊥) → length (midOf (line .used) (length rest - line .used) rest) < length rest
       rest-less some =
@@ -142,7 +164,7 @@ module _ (wanted : Wanted) where
           let so : TakenAs (lineOff (answering wanted) w rest) (midOf written (length out - written) out) line part' m' p' = rw has at line-told in
           rw (so .0, so .1 .0, so .1 .1 .0, so .1 .1 .1) (
           going-on (answering wanted) out₀ (takes wanted (length out₀) w₀ text) out w rest used written (t .going) fits
-          (says-at-most wanted w (firstLine rest)) has)
+          (line-at-most wanted w (firstLine rest)) has)
 
       sound-next : hasNewline rest ≡ true → Sound (world (line .session .stage) (line .session .bus) m' p')
       sound-next has =

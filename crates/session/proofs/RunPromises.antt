@@ -36,6 +36,7 @@ use Rattle.text.specs.Faults.{faultOf}
 use Rattle.text.specs.Newlines.{lastLine, linesAfter, textLines}
 use Rattle.text.specs.Frames.{eventDigits, eventIn, setupDigits, longest, setupIn, digitsFrom, pagesIn, chassisIn}
 use Rattle.text.specs.AnswerLine.{answerLine, answerLength}
+use Rattle.text.specs.OutcomeLine.{outcomeLines}
 use Rattle.text.specs.Promises.{FirstWrong}
 use Rattle.text.specs.Reading.{answersTo, mostHeld}
 use Rattle.text.specs.declared.frames.SetupLine.{SetupLine}
@@ -44,16 +45,17 @@ use Rattle.text.proofs.FaultLaws.{wrong-first, all-digits-of, by-fault}
 use Rattle.text.proofs.ReadBack.{number-back}
 use Rattle.text.proofs.ReadingLaws.{answer-long}
 use Rattle.pins.proofs.DigitLaws.{no-picture}
-use Rattle.session.specs.World.{World, world, says, turns, saysBy, turnsBy, setUpBy, setupAnswer, faultAnswer, afterEvent, freshWorld}
+use Rattle.session.specs.World.{World, world, outcomesLeft, closing, says, turns, saysBy, turnsBy, setUpBy, setupAnswer, faultAnswer, afterEvent, freshWorld}
 use Rattle.session.specs.Output.{answers}
 use Rattle.session.specs.Promises.{lengthLine, characterLine, pageLine, EventTakesItsStep, WrongLineLengthAnswers, WrongCharacterAnswers}
 use Rattle.session.specs.Promises.{numberSaid, LineNumbered, LineNumbers}
 use Rattle.session.specs.Promises.{LinePictured, RefusedLineKeeps, AcceptedSetupLeads, SetupInOrder, RefusedSetupEnds}
 use Rattle.session.specs.Promises.{EndedStays, CutChangesNothing, EmptyPrintsNothing, OneAnswerALine, StartsAtZero, setupNumber, answered}
+use Rattle.session.specs.Promises.{QuietUntilTheEnd, leftBy, OutcomesAtTheEnd}
 use Rattle.session.specs.declared.state.Stage.{Stage}
 use Rattle.session.specs.declared.state.Stage.the-variants.{Awaiting, Running, Ended}
 use Rattle.session.specs.declared.state.Wanted.{Wanted}
-use Rattle.session.specs.declared.state.Wanted.the-variants.{Answers}
+use Rattle.session.specs.declared.state.Wanted.the-variants.{Answers, Pictures, Outcomes}
 use Rattle.bus.proofs.SetUp.{setup-accepts, setup-refuses}
 
 -- ---- Events
@@ -208,7 +210,8 @@ refused-empty line refused = go (eqb (line .fault .refusal) Refusal.accepted) re
     go true r false k = rw (r, k) refl
     go false r known k = rw r refl
 
-ended-silent : (wanted : Wanted) (bus : Bus) (m p : List ℕ) (lines : List (List ℕ)) → answers wanted (world Ended bus m p) lines ≡ []
+ended-silent : (wanted : Wanted) (bus : Bus) (m p : List ℕ) (lines : List (List ℕ))
+    → answers wanted (world Ended bus m p) lines ≡ closing wanted (record { stage = Ended; bus = bus })
 unfolding answersTo saysBy turnsBy
 ended-silent wanted bus m p [] = refl
 ended-silent wanted bus m p (line ∷ lines) = ended-silent wanted bus m p lines
@@ -228,8 +231,7 @@ pub refused-setup-ends : RefusedSetupEnds
 refused-setup-ends wanted bus m p line lines refused = (
   one-said wanted (world Awaiting bus m p) line lines
       ∙ ap (λ (w : World). says wanted (world Awaiting bus m p) line ++ answers wanted w lines) (refused-turn bus m p line refused)
-      ∙ ap (λ (l : List ℕ). says wanted (world Awaiting bus m p) line ++ l) (ended-silent wanted emptyBus m p lines)
-      ∙ append-nil (says wanted (world Awaiting bus m p) line),
+      ∙ ap (λ (l : List ℕ). says wanted (world Awaiting bus m p) line ++ l) (ended-silent wanted emptyBus m p lines),
   refused-turn bus m p line refused,
 )
 
@@ -244,7 +246,8 @@ module _ (bus : Bus) (m p line : List ℕ) (lines : List (List ℕ)) where
   -- what is answered in all, where the number and the answer are known
   ends-with : (number : ℕ) (text : List ℕ) → setupNumber line ≡ number → (number ≡ Refusal.accepted → ⊥)
       → says Answers (world Awaiting bus m p) line ≡ text → answers Answers (world Awaiting bus m p) (line ∷ lines) ≡ text
-  ends-with number text is refused said = refused-setup-ends Answers bus m p line lines (λ e. refused (sym is ∙ e)) .0 ∙ said
+  ends-with number text is refused said =
+      refused-setup-ends Answers bus m p line lines (λ e. refused (sym is ∙ e)) .0 ∙ append-nil (says Answers (world Awaiting bus m p) line) ∙ said
 
   length-judged : (length line ≡ 20 → ⊥)
       → answers Answers (world Awaiting bus m p) (line ∷ lines) ≡ lengthLine
@@ -325,13 +328,16 @@ cut-changes-nothing wanted w line = go (w .session .stage) refl
 
 -- ---- The whole output
 
-pub empty-prints-nothing : EmptyPrintsNothing
-unfolding linesAfter lastLine answersTo
-empty-prints-nothing wanted = refl
-
-pub none-said : (wanted : Wanted) (w : World) → answers wanted w [] ≡ []
+-- behind the last line
+pub none-said : (wanted : Wanted) (w : World) → answers wanted w [] ≡ closing wanted (w .session)
 unfolding answersTo
 none-said wanted w = refl
+
+pub empty-prints-nothing : EmptyPrintsNothing
+unfolding linesAfter lastLine answersTo outcomesLeft freshWorld
+empty-prints-nothing Answers = refl
+empty-prints-nothing Pictures = refl
+empty-prints-nothing Outcomes = refl
 
 running-says : (bus : Bus) (m p line : List ℕ) → length (says Answers (world Running bus m p) line) ≡ answerLength
 unfolding saysBy
@@ -380,11 +386,64 @@ awaiting-long bus m p (line ∷ lines) = go (ℕ-discrete (setupNumber line) Ref
         ∙ omega (arith, awaiting-says bus m p line, accepted-turn bus m p line lines taken))
     go (no refused) =
         rw (ne-eqb (setupNumber line) Refusal.accepted refused) (
-        ap length (refused-setup-ends Answers bus m p line lines refused .0) ∙ awaiting-says bus m p line)
+        ap length (refused-setup-ends Answers bus m p line lines refused .0 ∙ append-nil (says Answers (world Awaiting bus m p) line))
+        ∙ awaiting-says bus m p line)
 
 pub one-answer-a-line : OneAnswerALine
 unfolding freshWorld
 one-answer-a-line text = awaiting-long emptyBus (freshWorld .memory) (freshWorld .ports) (textLines text)
+
+-- ---- Outcomes
+
+pub quiet-until-the-end : QuietUntilTheEnd
+unfolding saysBy
+quiet-until-the-end w line = go (w .session .stage) refl (isDigits eventDigits line) refl
+  where
+    go : (stage : Stage) → w .session .stage ≡ stage → (right : Bool) → isDigits eventDigits line ≡ right → says Outcomes w line ≡ []
+    go Awaiting e right r = rw e refl
+    go Running e true r = rw (e, r) refl
+    go Running e false r = rw (e, r) refl
+    go Ended e right r = rw e refl
+
+-- all that is written is written of what the lines leave
+closes-with : (lines : List (List ℕ)) (w : World) → answers Outcomes w lines ≡ closing Outcomes (leftBy w lines .session)
+unfolding leftBy
+closes-with [] w = none-said Outcomes w
+closes-with (line ∷ lines) w =
+    one-said Outcomes w line lines
+    ∙ ap (λ (l : List ℕ). l ++ answers Outcomes (turns w line) lines) (quiet-until-the-end w line)
+    ∙ closes-with lines (turns w line)
+
+-- from then on there is a state to tell of
+Begun : World → Type 0
+Begun w = closing Outcomes (w .session) ≡ outcomeLines (w .session .bus)
+
+begun-by : (w : World) (line : List ℕ) → Begun (turns w line)
+unfolding Begun outcomesLeft turnsBy
+begun-by w line = go (w .session .stage) refl (eqb (setupNumber line) Refusal.accepted) refl
+  where
+    go : (stage : Stage) → w .session .stage ≡ stage → (taken : Bool) → eqb (setupNumber line) Refusal.accepted ≡ taken → Begun (turns w line)
+    go Awaiting e true t = rw (e, t) refl
+    go Awaiting e false t = rw (e, t) refl
+    go Running e taken t = rw e refl
+    go Ended e taken t = rw e refl
+
+stays-begun : (lines : List (List ℕ)) (w : World) → Begun w → Begun (leftBy w lines)
+unfolding leftBy
+stays-begun [] w begun = begun
+stays-begun (line ∷ lines) w begun = stays-begun lines (turns w line) (begun-by w line)
+
+pub outcomes-at-the-end : OutcomesAtTheEnd
+unfolding Begun leftBy outcomesLeft freshWorld
+outcomes-at-the-end text = (
+  λ some. closes-with (textLines text) freshWorld ∙ told (textLines text) some,
+  λ none. ap (answers Outcomes freshWorld) none ∙ none-said Outcomes freshWorld,
+)
+  where
+    told : (lines : List (List ℕ)) → (lines ≡ [] → ⊥)
+        → closing Outcomes (leftBy freshWorld lines .session) ≡ outcomeLines (leftBy freshWorld lines .session .bus)
+    told [] some = absurd (some refl)
+    told (line ∷ lines) some = stays-begun lines (turns freshWorld line) (begun-by freshWorld line)
 
 -- ---- Before the first line
 

@@ -15,7 +15,7 @@ use Rattle.session.specs.World.{fresh, wantedBy}
 use Rattle.session.specs.Feeding.{feedRefusal}
 use Rattle.session.specs.Output.{output}
 use Rattle.session.specs.declared.state.Stage.the-variants.{Awaiting}
-use Rattle.session.specs.declared.state.Wanted.the-variants.{Answers, Pictures}
+use Rattle.session.specs.declared.state.Wanted.the-variants.{Answers, Pictures, Outcomes}
 
 -- 01's setup line with a page code 3, a digit short, and with a lower-case letter
 abbrev pub page3 : List ℕ
@@ -79,10 +79,50 @@ pub record PictureOutputs : Type 0 where
   pub refused : output Pictures (page3 ++ newline ∷ resetFrame ++ newline ∷ []) ≡ []
   pub refusedLower : output Pictures (lower ++ newline ∷ resetFrame ++ newline ∷ []) ≡ []
 
+-- ---- Outcomes
+
+-- of card n, which isn't fitted: 05, the card, FF and FF
+abbrev pub unfitted : ℕ → List ℕ
+unfitted digit = 0x30 ∷ 0x35 ∷ 0x30 ∷ digit ∷ 0x46 ∷ 0x46 ∷ 0x46 ∷ 0x46 ∷ 0x0A ∷ []
+
+-- of a fitted card, outside arbitration
+abbrev pub elsewhere : ℕ → List ℕ
+elsewhere digit = 0x30 ∷ 0x36 ∷ 0x30 ∷ digit ∷ 0x46 ∷ 0x46 ∷ 0x46 ∷ 0x46 ∷ 0x0A ∷ []
+
+abbrev pub nobodyFitted : List ℕ
+nobodyFitted =
+    unfitted 0x30
+    ++ unfitted 0x31
+    ++ unfitted 0x32
+    ++ unfitted 0x33
+    ++ unfitted 0x34
+    ++ unfitted 0x35
+    ++ unfitted 0x36
+    ++ unfitted 0x37
+    ++ unfitted 0x38
+    ++ unfitted 0x39
+    ++ unfitted 0x41
+    ++ unfitted 0x42
+    ++ unfitted 0x43
+    ++ unfitted 0x44
+    ++ unfitted 0x45
+    ++ unfitted 0x46
+
+-- A refused setup line leaves a bus without cards, and no line after it changes that; without a line there is nothing to tell of.
+pub record OutcomeOutputs : Type 0 where
+  pub refused : output Outcomes (page3 ++ newline ∷ setup ++ newline ∷ []) ≡ nobodyFitted
+  pub unended : output Outcomes lower ≡ nobodyFitted
+  pub blank : output Outcomes (newline ∷ []) ≡ nobodyFitted
+  pub empty : output Outcomes [] ≡ []
+  -- with cards 1 and 3 on a free bus these two get 06, whatever a bad line behind the setup line says
+  pub free : take 36 (output Outcomes (setup ++ newline ∷ lowerA ++ newline ∷ []))
+      ≡ unfitted 0x30 ++ elsewhere 0x31 ++ unfitted 0x32 ++ elsewhere 0x33
+
 -- The numbers that the programs hand on, and any other.
 pub record WantedNumbers : Type 0 where
   pub answers : wantedBy 0 ≡ Answers
   pub pictures : wantedBy 1 ≡ Pictures
+  pub outcomes : wantedBy 2 ≡ Outcomes
   pub other : wantedBy 0xFF ≡ Pictures
 
 -- ---- A session before its first line, and the refusals of a call

@@ -2,7 +2,7 @@
 -- program and one whole run": lines, the end of the input, refused setup).
 use Prim.Native.Nat.{ℕ, _+_, _-_}
 use mathlib.Core.Bool.{Bool, cond, _&&_, not}
-use mathlib.Core.List.{List, _++_}
+use mathlib.Core.List.{List, [], _++_}
 use lib.Dec.{eqb, leb, ltb}
 use lib.ListN.{length, take, drop, set, getD}
 use lib.Seq.{sets}
@@ -12,7 +12,7 @@ use Rattle.bus.specs.declared.state.Bus.{Bus}
 use Rattle.judgement.specs.Refusals.{hasWrongBuffers}
 use Rattle.text.specs.Newlines.{newline}
 use Rattle.text.specs.Reading.{Taken, firstTaken, takenOff, heldOf}
-use Rattle.session.specs.World.{World, mostSaid, answering}
+use Rattle.session.specs.World.{World, closing, mostSaid, answering}
 use Rattle.session.specs.declared.state.Stage.{Stage}
 use Rattle.session.specs.declared.state.Session.{Session}
 use Rattle.session.specs.declared.state.Wanted.{Wanted}
@@ -93,9 +93,25 @@ endedText text held = cond (wantsNewline text held) (set text held newline) text
 abbrev pub endedAt : List ℕ → ℕ → ℕ
 endedAt text held = cond (wantsNewline text held) (held + 1) held
 
--- what is taken then
+-- what is written behind the lines taken, in a place of so many bytes: the closing, where the most would have room
+abbrev pub closedIn : Wanted → ℕ → Session → List ℕ
+closedIn wanted room session = cond (leb (mostSaid wanted) room) (closing wanted session) []
+
+abbrev pub closed : Wanted → ℕ → Taken World → Taken World
+closed wanted size t = record {
+  state = t .state;
+  said = t .said ++ closedIn wanted (size - length (t .said)) (t .state .session);
+  used = t .used;
+  rest = t .rest;
+}
+
+-- so many bytes more were written
+abbrev pub withMore : Fed → ℕ → Fed
+withMore fed more = record { refusal = fed .refusal; session = fed .session; held = fed .held; written = fed .written + more }
+
+-- what is taken then, and the closing
 abbrev pub takesLast : Wanted → ℕ → World → List ℕ → ℕ → Taken World
-takesLast wanted size w text held = takes wanted size w (take (endedAt text held) (endedText text held))
+takesLast wanted size w text held = closed wanted size (takes wanted size w (take (endedAt text held) (endedText text held)))
 
 abbrev pub finishedOf : Wanted → World → List ℕ → ℕ → List ℕ → Fed
 finishedOf wanted w text held out =

@@ -7,7 +7,7 @@ use Rattle.text.specs.Chunks.{Run, begunIn, fedAll}
 use Rattle.session.specs.World.{World, answering, freshWorld}
 use Rattle.session.specs.declared.state.Wanted.{Wanted}
 
--- what is written for lines from some state on
+-- what is written for lines from some state on, and behind them at the end of the input
 abbrev pub answers : Wanted → World → List (List ℕ) → List ℕ
 answers wanted w lines = answersTo (answering wanted) w lines
 

@@ -18,17 +18,18 @@ use Rattle.text.specs.Digits.{numberOf, digitsOf, isDigits}
 use Rattle.text.specs.Newlines.{newline, hasNewline, textLines}
 use Rattle.text.specs.Frames.{eventDigits, eventIn, setupIn, longest}
 use Rattle.text.specs.AnswerLine.{answerLine, answerLength}
+use Rattle.text.specs.OutcomeLine.{outcomeLines}
 use Rattle.text.specs.Promises.{FirstWrong}
 use Rattle.text.specs.Reading.{heldOf}
 use Rattle.text.specs.Chunks.{wholeText}
 use Rattle.pins.specs.Picture.{picturesOf}
-use Rattle.session.specs.World.{World, world, machineOf, says, turns, mostSaid, setUpBy, freshWorld}
+use Rattle.session.specs.World.{World, world, machineOf, closing, says, turns, mostSaid, setUpBy, freshWorld}
 use Rattle.session.specs.Feeding.{takes, hasRoom, feedRefusal, fedOf, textLeft, outLeft, worldLeft, finishedOf, finishedText, finishedOut, finishedWorld}
 use Rattle.session.specs.Output.{answers, output, ranIn}
 use Rattle.session.specs.declared.state.Stage.{Stage}
 use Rattle.session.specs.declared.state.Stage.the-variants.{Awaiting, Running, Ended}
 use Rattle.session.specs.declared.state.Wanted.{Wanted}
-use Rattle.session.specs.declared.state.Wanted.the-variants.{Answers, Pictures}
+use Rattle.session.specs.declared.state.Wanted.the-variants.{Answers, Pictures, Outcomes}
 
 -- ---- What a line is answered, and where it leads
 
@@ -86,6 +87,10 @@ pub record PicturedLine (m : Machine) (line : List ℕ) : Type 0 where
 abbrev pub LinePictured : Type 0
 LinePictured = (m : Machine) (line : List ℕ) → PicturedLine m line
 
+-- Where outcomes are wanted, nothing is written for a line, whatever it is.
+abbrev pub QuietUntilTheEnd : Type 0
+QuietUntilTheEnd = (w : World) (line : List ℕ) → says Outcomes w line ≡ []
+
 -- A line that is refused, as bad or as an event, changes neither the bus nor a byte.
 abbrev pub RefusedLineKeeps : Type 0
 RefusedLineKeeps =
@@ -130,20 +135,23 @@ pub record SetupJudged (bus : Bus) (memory ports line : List ℕ) (lines : List 
 abbrev pub SetupInOrder : Type 0
 SetupInOrder = (bus : Bus) (memory ports line : List ℕ) (lines : List (List ℕ)) → SetupJudged bus memory ports line lines
 
--- What is said to a refused setup line is all that is said; it leaves an empty chassis, and memory and ports alone.
+-- What is said to a refused setup line, and at the end, is all that is said; it leaves an empty chassis, and memory and ports alone.
 abbrev pub RefusedSetupEnds : Type 0
 RefusedSetupEnds =
     (wanted : Wanted) (bus : Bus) (memory ports line : List ℕ) (lines : List (List ℕ)) → (setupNumber line ≡ Refusal.accepted → ⊥)
-    → (answers wanted (world Awaiting bus memory ports) (line ∷ lines) ≡ says wanted (world Awaiting bus memory ports) line)
+    → (answers wanted (world Awaiting bus memory ports) (line ∷ lines)
+    ≡ says wanted (world Awaiting bus memory ports) line ++ closing wanted (record { stage = Ended; bus = emptyBus }))
     × (turns (world Awaiting bus memory ports) line ≡ world Ended emptyBus memory ports)
 
 -- Once a run has ended nothing is said, and no line changes anything.
 abbrev pub EndedStays : Type 0
 EndedStays = (wanted : Wanted) (w : World) (line : List ℕ) → w .session .stage ≡ Ended → (says wanted w line ≡ []) × (turns w line ≡ w)
 
--- For no line more bytes are written than the most.
+-- Neither for a line nor at the end more bytes are written than the most.
 abbrev pub SaysAtMost : Type 0
-SaysAtMost = (wanted : Wanted) (w : World) (line : List ℕ) → length (says wanted w line) ≤ mostSaid wanted
+SaysAtMost =
+    (wanted : Wanted) (w : World)
+    → ((line : List ℕ) → length (says wanted w line) ≤ mostSaid wanted) × (length (closing wanted (w .session)) ≤ mostSaid wanted)
 
 -- The rest of a line beyond one byte more than the longest right line has changes nothing.
 abbrev pub CutChangesNothing : Type 0
@@ -181,6 +189,19 @@ picturesAlong w (line ∷ lines) = picturesBy (w .session .stage) w line + pictu
 -- Where pictures are wanted, 51 bytes for each picture so counted, and no others; what they are, `LinePictured` says line by line.
 abbrev pub PicturesCounted : Type 0
 PicturesCounted = (text : List ℕ) → length (output Pictures text) ≡ picturesAlong freshWorld (textLines text) * 51
+
+-- what lines one after another lead to
+unfoldable pub leftBy : World → List (List ℕ) → World
+leftBy w [] = w
+leftBy w (line ∷ lines) = leftBy (turns w line) lines
+
+-- Where outcomes are wanted, a text that has a line gets the sixteen lines of the bus that its lines have left, whichever of them were refused, and
+-- nothing else; one that has none gets nothing.
+abbrev pub OutcomesAtTheEnd : Type 0
+OutcomesAtTheEnd =
+    (text : List ℕ)
+    → ((textLines text ≡ [] → ⊥) → output Outcomes text ≡ outcomeLines (leftBy freshWorld (textLines text) .session .bus))
+    × (textLines text ≡ [] → output Outcomes text ≡ [])
 
 -- Whatever the lines, the state makes sense and the buffers keep their lengths, so that 01 and 02 are never answered.
 abbrev pub StaysSound : Type 0
@@ -253,10 +274,11 @@ FinishRefused =
     → (finishedOf wanted w text held out ≡ record { refusal = n; session = w .session; held = held; written = 0 })
     × ((finishedWorld wanted w text held out ≡ w) × ((finishedText wanted w text held out ≡ text) × (finishedOut wanted w text held out ≡ out)))
 
--- Where nothing is held, or the text has no room for a newline, or one ends what is held, the end of the input adds nothing.
+-- Where nothing is held, or the text has no room for a newline, or one ends what is held, the end of the input adds nothing to answers or pictures.
 abbrev pub NothingToEnd : Type 0
 NothingToEnd =
-    (wanted : Wanted) (w : World) (text : List ℕ) (held : ℕ) (out : List ℕ) → (held ≡ 0) ⊎ ((length text ≤ held) ⊎ (getD text (held - 1) 0 ≡ newline))
+    (wanted : Wanted) (w : World) (text : List ℕ) (held : ℕ) (out : List ℕ) → (wanted ≡ Outcomes → ⊥)
+    → (held ≡ 0) ⊎ ((length text ≤ held) ⊎ (getD text (held - 1) 0 ≡ newline))
     → (finishedOf wanted w text held out ≡ fedOf wanted w text held out)
     × ((finishedWorld wanted w text held out ≡ worldLeft wanted w text held out)
     × ((finishedText wanted w text held out ≡ textLeft wanted w text held out) × (finishedOut wanted w text held out ≡ outLeft wanted w text held out)))
@@ -268,7 +290,7 @@ RoomToRead =
     → feedRefusal (w .session .bus) (w .memory) (w .ports) text filled ≡ Refusal.accepted
     → 1 + longest < length text → mostSaid wanted ≤ length out → fedOf wanted w text filled out .held < length text
 
--- There is room for another line exactly where the most bytes that are written for one are left.
+-- There is room for another line exactly where the most bytes that are written at once are left.
 abbrev pub RoomAsked : Type 0
 RoomAsked = (wanted : Wanted) (size written : ℕ) → (hasRoom wanted size written ≡ true) ↔ (written + mostSaid wanted ≤ size)
 
@@ -280,7 +302,7 @@ NothingCompleteHeld =
     → hasRoom wanted (length out) (fedOf wanted w text filled out .written) ≡ true
     → hasNewline (take (fedOf wanted w text filled out .held) (textLeft wanted w text filled out)) ≡ false
 
--- At the end of the input an accepted finish writes what the held line gives, where it holds no newline and has room for one.
+-- At the end of the input an accepted finish writes what the held line and the end give, where it holds no newline and has room for one.
 abbrev pub FinishedInPlace : Type 0
 FinishedInPlace =
     (wanted : Wanted) (w : World) (text : List ℕ) (held : ℕ) (out : List ℕ)

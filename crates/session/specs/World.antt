@@ -19,6 +19,7 @@ use Rattle.text.specs.Digits.{isDigits}
 use Rattle.text.specs.Faults.{faultOf}
 use Rattle.text.specs.Frames.{eventDigits, eventIn, setupIn}
 use Rattle.text.specs.AnswerLine.{answerLine, answerLength}
+use Rattle.text.specs.OutcomeLine.{outcomeLines, outcomesLength}
 use Rattle.text.specs.Reading.{Reader}
 use Rattle.text.specs.declared.frames.Fault.{Fault}
 use Rattle.text.specs.declared.frames.SetupLine.{SetupLine}
@@ -27,7 +28,7 @@ use Rattle.session.specs.declared.state.Stage.{Stage}
 use Rattle.session.specs.declared.state.Stage.the-variants.{Awaiting, Running, Ended}
 use Rattle.session.specs.declared.state.Session.{Session}
 use Rattle.session.specs.declared.state.Wanted.{Wanted}
-use Rattle.session.specs.declared.state.Wanted.the-variants.{Answers, Pictures}
+use Rattle.session.specs.declared.state.Wanted.the-variants.{Answers, Pictures, Outcomes}
 
 -- a session with its memory and its ports
 pub record World : Type 0 where
@@ -60,24 +61,41 @@ setupAnswer fault given =
 abbrev pub stageAfter : SetupAnswer → Stage
 stageAfter given = cond (eqb (given .answer) Refusal.accepted) Running Ended
 
--- ---- What is written: answers (01), or pictures (02, CR 1)
+-- ---- What is written: answers (01), or pictures (02, CR 1), or outcomes (02, CR 4)
 
 abbrev pub wantsAnswers : ℕ
 wantsAnswers = 0
 
+abbrev pub wantsOutcomes : ℕ
+wantsOutcomes = 2
+
 -- by its number, as the calls hand it on; any other number asks for pictures
 unfoldable pub wantedBy : ℕ → Wanted
-wantedBy number = cond (eqb number wantsAnswers) Answers Pictures
+wantedBy number = cond (eqb number wantsAnswers) Answers (cond (eqb number wantsOutcomes) Outcomes Pictures)
 
 -- for a line that is no event: nothing of it is pictured
 abbrev pub replyAs : Wanted → Answer → List ℕ
 replyAs Answers answer = answerLine answer
 replyAs Pictures answer = []
+replyAs Outcomes answer = []
 
 -- for an event: its pictures, if it is accepted
 abbrev pub eventAs : Wanted → Event → Answer → List ℕ
 eventAs Answers event answer = answerLine answer
 eventAs Pictures event answer = picturesOf event answer
+eventAs Outcomes event answer = []
+
+-- the outcomes of what a run has left: before its setup line there is no state to tell of, and after a refused one an empty chassis
+unfoldable pub outcomesLeft : Stage → Bus → List ℕ
+outcomesLeft Awaiting bus = []
+outcomesLeft Running bus = outcomeLines bus
+outcomesLeft Ended bus = outcomeLines bus
+
+-- at the end of the input
+abbrev pub closing : Wanted → Session → List ℕ
+closing Answers session = []
+closing Pictures session = []
+closing Outcomes session = outcomesLeft (session .stage) (session .bus)
 
 -- ---- Event lines: what is wrong with a bad one (01, and 02, CR 2), and otherwise the step of `events`
 
@@ -113,14 +131,15 @@ says wanted w line = saysBy wanted (w .session .stage) w line
 abbrev pub turns : World → List ℕ → World
 turns w line = turnsBy (w .session .stage) w line
 
--- the most bytes that are written for a line
+-- the most bytes that are written at once, for a line or at the end
 abbrev pub mostSaid : Wanted → ℕ
 mostSaid Answers = answerLength
 mostSaid Pictures = mostPictured
+mostSaid Outcomes = outcomesLength
 
 -- the program as a reader of lines
 abbrev pub answering : Wanted → Reader World
-answering wanted = record { says = says wanted; turns = turns; most = mostSaid wanted }
+answering wanted = record { says = says wanted; turns = turns; closes = λ w. closing wanted (w .session); most = mostSaid wanted }
 
 -- before the first line: an empty chassis, memory and ports at zero
 abbrev pub fresh : Session

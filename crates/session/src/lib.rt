@@ -7,5 +7,6 @@ pub use calls::TakenLines;
 pub use state::Session;
 pub use state::Stage;
 pub use state::WANTS_ANSWERS;
+pub use state::WANTS_OUTCOMES;
 pub use state::WANTS_PICTURES;
 pub use state::Wanted;

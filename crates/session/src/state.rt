@@ -20,10 +20,14 @@ pub const WANTS_ANSWERS: u8 = 0;
 
 pub const WANTS_PICTURES: u8 = 1;
 
-// What is written for the lines of a run.
+pub const WANTS_OUTCOMES: u8 = 2;
+
+// What is written of a run.
 pub enum Wanted {
     // An answer line for each line.
     Answers,
     // The pictures of each accepted event.
     Pictures,
+    // At the end of the input, what the arbitration that the run has left means for each card.
+    Outcomes,
 }

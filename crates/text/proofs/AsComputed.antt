@@ -5,8 +5,8 @@ use Rattle.words.specs.Among.{everyListed}
 use Rattle.words.specs.First.{leastBelow}
 use Rattle.text.specs.Digits.{numberAfter, digitsOf}
 use Rattle.text.specs.Newlines.{hasNewline, firstLine, restOf, linesAfter, lastLine}
-use Rattle.text.specs.Reading.{takenWithin}
-use Rattle.text.specs.Examples.{DigitsAndNeighbours, EventLines, SetupLines, WrongLines, AnswerInPlace, LinesOfTexts, Held, LinesWithRoom}
+use Rattle.text.specs.Reading.{answersTo, takenWithin}
+use Rattle.text.specs.Examples.{DigitsAndNeighbours, EventLines, SetupLines, WrongLines, AnswerInPlace, OutcomeInPlace, LinesOfTexts, Held, LinesWithRoom}
 
 pub digits-and-neighbours : DigitsAndNeighbours
 digits-and-neighbours = record {
@@ -64,6 +64,10 @@ pub answer-in-place : AnswerInPlace
 unfolding digitsOf
 answer-in-place = record { line = refl; long = refl; room = refl; whole = refl; none = refl; behind = refl; tooShort = refl }
 
+pub outcome-in-place : OutcomeInPlace
+unfolding digitsOf
+outcome-in-place = record { line = refl; nine = refl; long = refl; room = refl; none = refl }
+
 pub lines-of-texts : LinesOfTexts
 unfolding linesAfter lastLine
 lines-of-texts = record { nothing = refl; newlineAlone = refl; ended = refl; unended = refl; emptyBetween = refl; carriageReturn = refl }
@@ -73,5 +77,5 @@ unfolding hasNewline
 held = record { long = refl; right = refl; more = refl; lines = refl }
 
 pub lines-with-room : LinesWithRoom
-unfolding hasNewline firstLine restOf takenWithin
-lines-with-room = record { all = refl; two = refl; none = refl; first = refl }
+unfolding hasNewline firstLine restOf linesAfter lastLine answersTo takenWithin
+lines-with-room = record { all = refl; two = refl; whole = refl; none = refl; first = refl }

@@ -9,3 +9,4 @@ pub mod TakingLaws
 pub mod LinePromises
 pub mod ChunkLaws
 pub mod ReadBack
+pub mod OutcomeLines

@@ -124,7 +124,8 @@ module _ {S : Type 0} (r : Reader S) (cut : GoesByFront r) where
   last-same s [] [] e = refl
   last-same s [] (b ∷ g) e = absurd (omega (arith, ap length e))
   last-same s (b ∷ h) [] e = absurd (omega (arith, ap length e))
-  last-same s (b ∷ h) (a ∷ g) e = ap (λ (l : List ℕ). l ++ []) (same-said s (b ∷ h) (a ∷ g) e)
+  last-same s (b ∷ h) (a ∷ g) e =
+      ap₂ (λ (l : List ℕ) (t : S). l ++ r .closes t) (same-said s (b ∷ h) (a ∷ g) e) (same-turn s (b ∷ h) (a ∷ g) e)
 
   cut-same : (s : S) (h g text : List ℕ) → take mostHeld h ≡ take mostHeld g → answersTo r s (linesAfter h text) ≡ answersTo r s (linesAfter g text)
   unfolding linesAfter

@@ -116,7 +116,7 @@ digits-are zero n = every-of isDigit [] (λ i h. absurd (omega (arith, h)))
 digits-are (suc count) n =
     every-append isDigit (digitsOf count (n / 16)) (digitOf (n % 16) ∷ []) (digits-are count (n / 16)) (one-digit-is (n % 16) (omega arith))
 
-numbers-back : (count n : ℕ) → n < 16 ^ count → numberOf (digitsOf count n) ≡ n
+pub numbers-back : (count n : ℕ) → n < 16 ^ count → numberOf (digitsOf count n) ≡ n
 unfolding digitsOf numberAfter
 numbers-back zero n h = none n h
   where
@@ -136,7 +136,7 @@ numbers-back (suc count) n h =
     pow-suc c = ap (λ (k : ℕ). 16 ^ k) (next c) ∙ pow-add 16 c 1
 
 -- fields of digits are digits
-fields-digits : {A : Type 0} (fields : List (ℕ × (A → ℕ))) (a : A) → everyListed isDigit (laidOut (inDigits fields) a) ≡ true
+pub fields-digits : {A : Type 0} (fields : List (ℕ × (A → ℕ))) (a : A) → everyListed isDigit (laidOut (inDigits fields) a) ≡ true
 fields-digits [] a = every-of isDigit [] (λ i h. absurd (omega (arith, h)))
 fields-digits (field ∷ fields) a =
     every-append isDigit (digitsOf (field .0) (field .1 a)) (laidOut (inDigits fields) a) (digits-are (field .0) (field .1 a)) (fields-digits fields a)
@@ -144,7 +144,7 @@ fields-digits (field ∷ fields) a =
 more-digits : (front : List ℕ) (count n : ℕ) → everyListed isDigit front ≡ true → everyListed isDigit (front ++ digitsOf count n) ≡ true
 more-digits front count n so = every-append isDigit front (digitsOf count n) so (digits-are count n)
 
-right-digits : (count : ℕ) (line : List ℕ) → length line ≡ count → everyListed isDigit line ≡ true → isDigits count line ≡ true
+pub right-digits : (count : ℕ) (line : List ℕ) → length line ≡ count → everyListed isDigit line ≡ true → isDigits count line ≡ true
 right-digits count line size all = rw (eq-eqb (length line) count size, all) refl
 
 pub numbers-read-back : NumbersReadBack

@@ -7,6 +7,7 @@ use lib.ListN.{take, drop, replicate}
 use Rattle.bus.specs.State.{chassis}
 use Rattle.judgement.specs.Table.{eventOf}
 use Rattle.events.specs.declared.answers.Answer.{Answer}
+use Rattle.outcome.specs.Outcomes.{figures}
 use Rattle.text.specs.declared.frames.BadLine.{BadLine}
 use Rattle.text.specs.declared.frames.Line.{Line}
 use Rattle.text.specs.Digits.{isDigit, valueOf, digitOf, isDigits}
@@ -14,7 +15,8 @@ use Rattle.text.specs.Faults.{fault, faultOf}
 use Rattle.text.specs.Newlines.{newline, textLines}
 use Rattle.text.specs.Frames.{eventIn, setupIn, longest, nextLine}
 use Rattle.text.specs.AnswerLine.{answerLine, answerLength, printed, bytesPut}
-use Rattle.text.specs.Reading.{Reader, firstTaken, takenOff, heldOf}
+use Rattle.text.specs.OutcomeLine.{outcomeLine, outcomeLength, outcomeBytesPut}
+use Rattle.text.specs.Reading.{Reader, answersTo, firstTaken, takenOff, heldOf}
 
 -- ---- Digits, and the bytes beside them
 
@@ -123,6 +125,16 @@ pub record AnswerInPlace : Type 0 where
   pub behind : drop answerLength (printed eachDigit (replicate (1 + answerLength) 0x55)) ≡ 0x55 ∷ []
   pub tooShort : printed eachDigit (replicate (answerLength - 1) 0x55) ≡ replicate (answerLength - 1) 0x55
 
+-- ---- An outcome line
+
+pub record OutcomeInPlace : Type 0 where
+  pub line : outcomeLine (figures 0x12 0x34 0x56 0x9F) ≡ 0x31 ∷ 0x32 ∷ 0x33 ∷ 0x34 ∷ 0x35 ∷ 0x36 ∷ 0x39 ∷ 0x46 ∷ 0x0A ∷ []
+  -- card 9 loses at line 1 to card 10
+  pub nine : outcomeLine (figures 0x00 9 1 10) ≡ 0x30 ∷ 0x30 ∷ 0x30 ∷ 0x39 ∷ 0x30 ∷ 0x31 ∷ 0x30 ∷ 0x41 ∷ 0x0A ∷ []
+  pub long : outcomeLength ≡ 9
+  pub room : outcomeBytesPut (replicate 144 0) ≡ 144
+  pub none : outcomeBytesPut (replicate 143 0) ≡ 0
+
 -- ---- Lines
 
 pub record LinesOfTexts : Type 0 where
@@ -142,9 +154,9 @@ pub record Held : Type 0 where
 
 -- ---- Lines taken where there is room
 
--- a reader that says each line again, up to two bytes of it, and counts the lines
+-- a reader that says each line again, up to two bytes of it, counts the lines, and says at the end how many there were
 abbrev pub echo : Reader ℕ
-echo = record { says = λ count line. take 2 line; turns = λ count line. suc count; most = 2 }
+echo = record { says = λ count line. take 2 line; turns = λ count line. suc count; closes = λ count. count ∷ []; most = 2 }
 
 -- AB, C and DE have ended, and F has not
 abbrev pub fewLines : List ℕ
@@ -155,6 +167,8 @@ pub record LinesWithRoom : Type 0 where
   -- behind AB and C a byte of four is left, and two might be said
   pub two : takenOff echo 4 0 fewLines
       ≡ record { state = 2; said = 0x41 ∷ 0x42 ∷ 0x43 ∷ []; used = 5; rest = 0x44 ∷ 0x45 ∷ newline ∷ 0x46 ∷ [] }
+  -- the end of the text ends the last line, and only then is the count said
+  pub whole : answersTo echo 0 (textLines fewLines) ≡ 0x41 ∷ 0x42 ∷ 0x43 ∷ 0x44 ∷ 0x45 ∷ 0x46 ∷ 4 ∷ []
   pub none : takenOff echo 1 0 fewLines ≡ record { state = 0; said = []; used = 0; rest = fewLines }
   pub first : firstTaken echo 0 fewLines
       ≡ record { state = 1; said = 0x41 ∷ 0x42 ∷ []; used = 3; rest = 0x43 ∷ newline ∷ 0x44 ∷ 0x45 ∷ newline ∷ 0x46 ∷ [] }

@@ -1,19 +1,23 @@
 -- What is promised of digits, lines and frames. The proof of each stands in proofs/ under its name in lower case, with hyphens.
-use Prim.Native.Nat.{ℕ, _+_, _-_, _^_, _<_, _≤_}
+use Prim.Native.Nat.{ℕ, _+_, _-_, _*_, _^_, _<_, _≤_}
 use mathlib.Core.Path.{_≡_}
 use mathlib.Core.Logic.{_⊎_, _↔_}
 use mathlib.Core.Bool.{true, false}
-use mathlib.Core.List.{List, _∷_, _++_, map}
+use mathlib.Core.List.{List, [], _∷_, _++_, map}
 use lib.ListN.{length, getD, take, drop}
 use Rattle.bus.specs.Refusal.{accepted}
+use Rattle.bus.specs.declared.state.Bus.{Bus}
 use Rattle.bus.specs.declared.state.Chassis.{Chassis}
 use Rattle.judgement.specs.declared.event.Event.{Event}
 use Rattle.events.specs.declared.answers.Answer.{Answer}
+use Rattle.outcome.specs.Outcomes.{figures, figuresFor}
+use Rattle.outcome.specs.declared.figures.Figures.{Figures}
 use Rattle.text.specs.Digits.{isDigit, valueOf, digitOf, numberOf, digitsOf, isDigits}
 use Rattle.text.specs.Faults.{fault, faultOf}
 use Rattle.text.specs.Newlines.{newline, hasNewline, firstLine, restOf, lastLine, textLines}
 use Rattle.text.specs.Frames.{digitsFrom, eventDigits, eventIn, nextLine, lineNumber, lineColumn, lineBytes, setupIn, longest}
 use Rattle.text.specs.AnswerLine.{answerDigits, answerLine, answerLength, printed}
+use Rattle.text.specs.OutcomeLine.{outcomeLine, outcomeLines, outcomesPut}
 use Rattle.text.specs.Reading.{Reader, answersTo, takenWithin, takenOff, heldOf}
 use Rattle.text.specs.Chunks.{begunIn, fedAll, wholeText}
 
@@ -130,6 +134,41 @@ OnlyLineWritten =
     (a : Answer) (place : List ℕ)
     → (19 ≤ length place → (take 19 (printed a place) ≡ answerLine a) × (drop 19 (printed a place) ≡ drop 19 place))
     × (length place < 19 → printed a place ≡ place)
+
+-- ---- The outcome line (02, CR 4)
+
+-- an outcome line read again
+abbrev pub outcomeOnLine : List ℕ → Figures
+outcomeOnLine line =
+    figures (numberOf (digitsFrom 0 2 line)) (numberOf (digitsFrom 2 2 line)) (numberOf (digitsFrom 4 2 line)) (numberOf (digitsFrom 6 2 line))
+
+-- what fits its field on an outcome line
+pub record FiguresFit (f : Figures) : Type 0 where
+  pub answer : f .answer < 16 ^ 2
+  pub card : f .card < 16 ^ 2
+  pub line : f .line < 16 ^ 2
+  pub rival : f .rival < 16 ^ 2
+
+-- Eight digits and a newline: answer, card, line and rival.
+abbrev pub OutcomeReadsBack : Type 0
+OutcomeReadsBack =
+    (f : Figures)
+    → ((isDigits 8 (take 8 (outcomeLine f)) ≡ true) × (drop 8 (outcomeLine f) ≡ 0x0A ∷ [])) × (FiguresFit f → outcomeOnLine (outcomeLine f) ≡ f)
+
+-- The sixteen lines are 144 bytes, and from the ninth byte of each line on stands the next: card n's is the n-th, counted from 0.
+abbrev pub OutcomesInOrder : Type 0
+OutcomesInOrder =
+    (bus : Bus)
+    → (length (outcomeLines bus) ≡ 144)
+    × ((card : ℕ) → card < 16 → take 9 (drop (card * 9) (outcomeLines bus)) ≡ outcomeLine (figuresFor bus card))
+
+-- What is lent to be written to holds them in its first 144 bytes, whatever stood there, and behind them every byte as it was. One with fewer
+-- bytes is left alone.
+abbrev pub OnlyOutcomesWritten : Type 0
+OnlyOutcomesWritten =
+    (bus : Bus) (place : List ℕ)
+    → (144 ≤ length place → (take 144 (outcomesPut bus place) ≡ outcomeLines bus) × (drop 144 (outcomesPut bus place) ≡ drop 144 place))
+    × (length place < 144 → outcomesPut bus place ≡ place)
 
 -- ---- Lines
 

@@ -7,15 +7,17 @@ use lib.ListN.{length, take}
 use Rattle.text.specs.Newlines.{hasNewline, firstLine, restOf}
 use Rattle.text.specs.Frames.{longest}
 
--- what lines mean: what is said to a line in some state, the state that the line turns it to, and the most bytes that are said to one line
+-- what lines mean: what is said to a line in some state, the state that the line turns it to, what is said behind the last line, and the most
+-- bytes that are said at once, to a line or behind the last
 pub record Reader (S : Type 0) : Type 0 where
   pub says : S → List ℕ → List ℕ
   pub turns : S → List ℕ → S
+  pub closes : S → List ℕ
   pub most : ℕ
 
--- everything that is said to lines one after another
+-- everything that is said to lines one after another, and behind them
 unfoldable pub answersTo : {S : Type 0} → Reader S → S → List (List ℕ) → List ℕ
-answersTo r s [] = []
+answersTo r s [] = r .closes s
 answersTo r s (line ∷ lines) = r .says s line ++ answersTo r (r .turns s line) lines
 
 -- ---- Lines taken off a text

@@ -8,7 +8,7 @@ use Rattle.words.specs.Bits.{bitAt}
 use Rattle.words.specs.Below.{allBelow, orBelow}
 use Rattle.words.specs.Among.{isAmong, everyListed, beside, hasBeside, everyRow}
 use Rattle.words.specs.Parts.{Part, widthsOf, total, laidOut, placeOf, nthPart, putFrom}
-use Rattle.words.specs.First.{Reason, reason, firstOf, appliesAs, ascendsFrom, leastBelow}
+use Rattle.words.specs.First.{Reason, reason, firstOf, appliesAs, ascendsFrom, leastBelow, highestBelow}
 
 -- 10 has its ones at the places 3 and 1
 pub ones-of-ten : (bitAt 10 3 ≡ true) × (bitAt 10 2 ≡ false) × (bitAt 10 1 ≡ true) × (bitAt 10 0 ≡ false)
@@ -69,6 +69,11 @@ five-applies = (refl, refl, refl, refl)
 pub three-least : (leastBelow (λ k. ltb 2 k) 5 ≡ 3) × (leastBelow (λ k. ltb 9 k) 5 ≡ 5)
 unfolding leastBelow
 three-least = (refl, refl)
+
+-- the highest number below 5 that is below 3, and the other where none is above 9
+pub two-highest : (highestBelow (λ k. ltb k 3) 5 7 ≡ 2) × (highestBelow (λ k. ltb 9 k) 5 7 ≡ 7)
+unfolding highestBelow
+two-highest = (refl, refl)
 
 -- a byte and then its two neighbours
 abbrev byteAndNeighbours : List (Part ℕ)

@@ -1,6 +1,6 @@
--- The laws of `firstOf` and `leastBelow`.
-use Prim.Native.Nat.{ℕ, zero, suc, suc-le-suc, _<_, _≤_}
-use mathlib.Core.Path.{_≡_, refl, sym, subst, _∙_}
+-- The laws of `firstOf`, `leastBelow` and `highestBelow`.
+use Prim.Native.Nat.{ℕ, zero, suc, suc-le-suc, _-_, _<_, _≤_}
+use mathlib.Core.Path.{_≡_, refl, sym, ap, subst, _∙_}
 use mathlib.Core.Logic.{_⊎_, inl, inr, ⊎-elim}
 use mathlib.Core.Bool.{Bool, true, false, cond, _&&_, _||_, and-eq-true-iff, true≢false}
 use mathlib.Core.List.{List, [], _∷_, _++_}
@@ -9,8 +9,8 @@ use native.Mathlib.Decide.{decLt}
 use native.Mathlib.Omega.{arith}
 use lib.Dec.{eqb, ltb}
 use borrow.Author.Tests.{ltb-true, eqb-true, eq-eqb, ne-eqb}
-use Rattle.words.specs.First.{Reason, firstOf, appliesAs, ascendsFrom, leastBelow}
-use Rattle.words.specs.Promises.{FirstByNumber, NoneApplies, LeastPassing}
+use Rattle.words.specs.First.{Reason, firstOf, appliesAs, ascendsFrom, leastBelow, highestBelow}
+use Rattle.words.specs.Promises.{FirstByNumber, NoneApplies, LeastPassing, HighestPassing, HighestOfNone}
 use Rattle.words.proofs.TestLaws.{true-or-false, either-of}
 
 -- ---- The first reason
@@ -242,3 +242,76 @@ pub least-passing : LeastPassing
 least-passing test n k h e =
     let below = least-below test n k h e in
     (below, (least-passes test n below, least-first test n))
+
+-- ---- The highest number that passes
+
+-- one place down: that number is it, or what is found below it
+module _ (test : ℕ → Bool) (p other : ℕ) (some : 0 < p) where
+  highest-down : highestBelow test p other ≡ cond (test (p - 1)) (p - 1) (highestBelow test (p - 1) other)
+  unfolding highestBelow
+  highest-down = let e : p ≡ suc (p - 1) = omega arith in ap (λ (x : ℕ). highestBelow test x other) e
+
+  pub highest-here : test (p - 1) ≡ true → highestBelow test p other ≡ p - 1
+  highest-here passes = highest-down ∙ rw passes
+
+  pub highest-passed : test (p - 1) ≡ false → highestBelow test p other ≡ highestBelow test (p - 1) other
+  highest-passed fails = highest-down ∙ rw fails
+
+-- no number is left
+pub highest-ends : (test : ℕ → Bool) (p other : ℕ) → p ≤ 0 → highestBelow test p other ≡ other
+unfolding highestBelow
+highest-ends test p other none = let e : p ≡ 0 = omega arith in ap (λ (x : ℕ). highestBelow test x other) e
+
+-- a number that passes, and above which none does, is the highest
+pub highest-is : (test : ℕ → Bool) (n other m : ℕ) → m < n → test m ≡ true → ((j : ℕ) → m < j → j < n → test j ≡ false)
+    → highestBelow test n other ≡ m
+unfolding highestBelow
+highest-is test zero other m h passes none = absurd (not-suc-le-zero h)
+highest-is test (suc n) other m h passes none = go (decLt m n) (λ below. highest-is test n other m below passes (λ j l k. none j l (omega arith)))
+  where
+    go : Dec (m < n) → (m < n → highestBelow test n other ≡ m) → highestBelow test (suc n) other ≡ m
+    go (yes below) rest = rw (none n below (le-refl (suc n))) (rest below)
+    go (no top) rest = let same : m ≡ n = omega arith in rw (sym (ap test same) ∙ passes) (sym same)
+
+-- where it isn't the other, it is below the bound
+pub highest-found : (test : ℕ → Bool) (n other : ℕ) → (highestBelow test n other ≡ other → ⊥) → highestBelow test n other < n
+unfolding highestBelow
+highest-found test zero other some = absurd (some refl)
+highest-found test (suc n) other some = go (test n) some (highest-found test n other)
+  where
+    go : (b : Bool) → (cond b n (highestBelow test n other) ≡ other → ⊥) → ((highestBelow test n other ≡ other → ⊥) → highestBelow test n other < n)
+        → cond b n (highestBelow test n other) < suc n
+    go true there below = le-refl (suc n)
+    go false there below = omega (arith, below there)
+
+pub highest-of-none : HighestOfNone
+unfolding highestBelow
+highest-of-none test zero other none = refl
+highest-of-none test (suc n) other none = rw (none n (le-refl (suc n))) (highest-of-none test n other (λ k h. none k (omega arith)))
+
+pub highest-passing : HighestPassing
+unfolding highestBelow
+highest-passing test zero other k h e = absurd (not-suc-le-zero h)
+highest-passing test (suc n) other k h e = go (test n) refl (highest-passing test n other k)
+  where
+    found : Bool → ℕ
+    found b = cond b n (highestBelow test n other)
+
+    go : (b : Bool) → test n ≡ b
+        → (k < n → test k ≡ true
+        → (highestBelow test n other < n)
+        × ((test (highestBelow test n other) ≡ true) × ((j : ℕ) → highestBelow test n other < j → j < n → test j ≡ false)))
+        → (found b < suc n) × ((test (found b) ≡ true) × ((j : ℕ) → found b < j → j < suc n → test j ≡ false))
+    go true t below = (le-refl (suc n), (t, λ j l m. absurd (omega arith)))
+    go false t below =
+        let less : k < n = not-last t (decLt k n) in
+        let rest = below less e in
+        (omega (arith, rest .0), (rest .1 .0, λ j l m. at j l m t (decLt j n) (rest .1 .1 j)))
+      where
+        not-last : test n ≡ false → Dec (k < n) → k < n
+        not-last t (yes l) = l
+        not-last t (no l) = let same : k ≡ n = omega arith in absurd (true≢false (sym e ∙ ap test same ∙ t))
+
+        at : (j : ℕ) → found false < j → j < suc n → test n ≡ false → Dec (j < n) → (found false < j → j < n → test j ≡ false) → test j ≡ false
+        at j l m t (yes less) rest = rest l less
+        at j l m t (no more) rest = let same : j ≡ n = omega arith in ap test same ∙ t

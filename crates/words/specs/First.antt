@@ -31,3 +31,8 @@ ascendsFrom m (r ∷ reasons) = ltb m (r .number) && ascendsFrom (r .number) rea
 unfoldable pub leastBelow : (ℕ → Bool) → ℕ → ℕ
 leastBelow test zero = 0
 leastBelow test (suc n) = cond (test 0) 0 (suc (leastBelow (λ k. test (suc k)) n))
+
+-- the highest number below the bound that passes the test, or the other where none does
+unfoldable pub highestBelow : (ℕ → Bool) → ℕ → ℕ → ℕ
+highestBelow test zero other = other
+highestBelow test (suc n) other = cond (test n) n (highestBelow test n other)

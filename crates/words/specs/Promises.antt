@@ -4,7 +4,7 @@ use mathlib.Core.Path.{_≡_}
 use mathlib.Core.Logic.{_↔_}
 use mathlib.Core.Bool.{Bool, true, false}
 use mathlib.Core.List.{List}
-use Rattle.words.specs.First.{Reason, firstOf, appliesAs, ascendsFrom, leastBelow}
+use Rattle.words.specs.First.{Reason, firstOf, appliesAs, ascendsFrom, leastBelow, highestBelow}
 
 -- Of reasons in the order of their numbers, n is given exactly if n applies and no lower number does;
 abbrev pub FirstByNumber : Type 0
@@ -22,3 +22,14 @@ abbrev pub LeastPassing : Type 0
 LeastPassing =
     (test : ℕ → Bool) (n k : ℕ) → k < n → test k ≡ true
     → (leastBelow test n < n) × ((test (leastBelow test n) ≡ true) × ((j : ℕ) → j < leastBelow test n → test j ≡ false))
+
+-- The highest number that passes passes, none between it and the bound does, and it is there where any is;
+abbrev pub HighestPassing : Type 0
+HighestPassing =
+    (test : ℕ → Bool) (n other k : ℕ) → k < n → test k ≡ true
+    → (highestBelow test n other < n)
+    × ((test (highestBelow test n other) ≡ true) × ((j : ℕ) → highestBelow test n other < j → j < n → test j ≡ false))
+
+-- where none is, the other stands for it.
+abbrev pub HighestOfNone : Type 0
+HighestOfNone = (test : ℕ → Bool) (n other : ℕ) → ((k : ℕ) → k < n → test k ≡ false) → highestBelow test n other ≡ other

@@ -48,7 +48,7 @@ loop-again c =
     let filled = at-fill turn in
     let inv = at-loop filled .loop .inv in
     let kept = turn .take-turn .kept .1 .1 .1 in
-    (kept .0 ∙ filled .fill .kept .1 .0 ∙ inv .0, (kept .1 .0 ∙ inv .1 .0, (kept .1 .1 .0 ∙ inv .1 .1 .0, kept .1 .1 .1 .0 ∙ inv .1 .1 .1)))
+    (kept .0 ∙ filled .fill .kept .1 .1 .0 ∙ inv .0, (kept .1 .0 ∙ inv .1 .0, (kept .1 .1 .0 ∙ inv .1 .1 .0, kept .1 .1 .1 .0 ∙ inv .1 .1 .1)))
 
 same-length : tie.Need-same-length Inv-loop μ-loop
 same-length c = c .before .loop .inv .0

@@ -6,7 +6,7 @@ use Prim.Native.Nat.{ℕ}
 use Rattle.bus.specs.Refusal as Refusal
 use Rattle.session.specs.World.{wantedBy}
 use Rattle.session.specs.Feeding.{worldOf, feedRefusal, refusedFed}
-use Rattle.session.proofs.FeedLaws.{call-accepted, ended-within, finished}
+use Rattle.session.proofs.FeedLaws.{call-accepted, ended-within, then-closed, finished, written-within}
 use Rattle.feeding.proofs.feeding.finish.Statement.{statement}
 use Rattle.feeding.proofs.feeding.finish.Tie as tie
 
@@ -30,6 +30,10 @@ at-accepted c = c .before .before
 abbrev at-ended : tie.After-take-in → tie.After-end-line
 at-ended c = c .before .before .before .before .before .before .before
 
+-- where its closing is put
+abbrev at-taken : tie.After-close → tie.After-take-in
+at-taken c = c .before .before .before .before .before .before .before .before .before .before
+
 -- ---- Needs
 
 feed-refusal-requires : tie.Need-feed-refusal-requires
@@ -46,6 +50,14 @@ take-in-requires c κs =
     let s = call-accepted (from .session .bus) (from .memory .now) (from .ports .now) (from .text .now) (from .held) (not-refused given) in
     let so = ended .end-line .ensures in
     (rw (so .0, so .1) (ended-within (from .text .now) (from .held) (s .filled-within)), (s .fit, s .sense))
+
+close-requires : tie.Need-close-requires
+close-requires c κs =
+    let taken = c .before .before .before .before .before .before .before .before .before in
+    let ended = at-ended taken in
+    let from = start (at-accepted ended .before) .args in
+    written-within (wantedBy (from .wanted)) (worldOf (from .session) (from .memory .now) (from .ports .now)) (ended .end-line .last .0) (from .out .now)
+    (ended .end-line .result) (taken .take-in .result) _ _ _ _ (taken .take-in .ensures)
 
 refused-fed-requires : tie.Need-refused-fed-requires
 refused-fed-requires c κs = search needs
@@ -64,15 +76,18 @@ same-length-4 c = search needs
 
 returns : tie.Need-returns
 returns c =
-    let taken = c .before .before .before .before .before .before .before .before in
+    let done = c .before .before in
+    let taken = at-taken done in
     let ended = at-ended taken in
     let given = at-accepted ended in
     let from = start (given .before) .args in
+    let wanted = wantedBy (from .wanted) in
+    let world = worldOf (from .session) (from .memory .now) (from .ports .now) in
     let so = ended .end-line .ensures in
     rw (eq-eqb (refusal (given .before)) Refusal.accepted (not-refused given)) (
-    finished (wantedBy (from .wanted)) (worldOf (from .session) (from .memory .now) (from .ports .now)) (from .text .now) (from .out .now)
-    (from .held) _ _ _ _ _ _ _
-    (so .0) (so .1) (taken .take-in .ensures))
+    finished wanted world (from .text .now) (from .out .now) (from .held) _ _ _ _ _ _ _ (so .0) (so .1)
+    (then-closed wanted world (ended .end-line .last .0) (from .out .now) (ended .end-line .result) (taken .take-in .result) _ _ _ _ _ _
+    (taken .take-in .ensures) (done .close .ensures)))
 
 same-length-5 : tie.Need-same-length-5
 same-length-5 c = search needs
@@ -99,6 +114,7 @@ finish-spec =
     feed-refusal-requires
     end-line-requires
     take-in-requires
+    close-requires
     refused-fed-requires
     same-length
     same-length-2

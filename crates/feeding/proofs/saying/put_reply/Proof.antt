@@ -1,9 +1,9 @@
--- By what is wanted: of a line that is no event there is no picture.
+-- By what is wanted: of a line that is no event there is an answer or nothing.
 use mathlib.Core.Path.{refl}
 use borrow.Author.Needs.{needs}
 use Rattle.session.specs.World.{wantedBy, replyAs}
-use Rattle.session.specs.declared.state.Wanted.the-variants.{Answers, Pictures}
-use Rattle.feeding.proofs.SayingLaws.{wants-answers, wants-pictures, answer-put, as-found}
+use Rattle.session.specs.declared.state.Wanted.the-variants.{Answers}
+use Rattle.feeding.proofs.SayingLaws.{wants-answers, no-reply, answer-put, as-found}
 use Rattle.feeding.proofs.saying.put_reply.Statement.{statement}
 use Rattle.feeding.proofs.saying.put_reply.Tie as tie
 
@@ -21,9 +21,7 @@ returns c =
 returns-2 : tie.Need-returns-2
 returns-2 c =
     let from = c .before .before in
-    let wanted = from .args .wanted in
-    as-found (from .args .out .now) _ _ (λ w. replyAs w (from .args .answer)) (wantedBy wanted) Pictures (wants-pictures wanted (c .if1 .left)) (from .pre)
-    (λ room. (refl, refl))
+    rw (no-reply (from .args .wanted) (c .if1 .left) (from .args .answer)) (refl, refl)
 
 pub put-reply-spec : {M : Type 1} → statement M
 put-reply-spec = tie.close (tie.spec (λ c κs. search needs) (λ c. search needs) returns returns-2)

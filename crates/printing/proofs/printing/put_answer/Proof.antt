@@ -14,17 +14,17 @@ use Rattle.printing.proofs.printing.put_answer.Tie as tie
 abbrev at-cycle : tie.After-slice-known3 → tie.After-put-cycle
 at-cycle c = c .before .before
 
-abbrev at-standing : tie.After-slice-known3 → tie.After-put-standing
-at-standing c = at-cycle c .before .before .before .before
+abbrev at-numbers : tie.After-slice-known3 → tie.After-put-numbers
+at-numbers c = at-cycle c .before .before .before .before
 
 returns : tie.Need-returns
 returns c =
-    let given = at-standing c .before .before .before .before .args in
+    let given = at-numbers c .before .before .before .before .args in
     let room = le-leb answerLength (length (given .out .now)) (omega arith) in (
       then-pick 0 room refl,
       then-pick (given .out .now) room (
-          line-put (given .out .now) (at-standing c .put-standing .last .0) (at-cycle c .put-cycle .last .0) (given .answer) (omega arith)
-          (at-standing c .put-standing .ensures) (at-cycle c .put-cycle .ensures)),
+          line-put (given .out .now) (at-numbers c .put-numbers .last .0) (at-cycle c .put-cycle .last .0) (given .answer) (omega arith)
+          (at-numbers c .put-numbers .ensures) (at-cycle c .put-cycle .ensures)),
     )
 
 returns-2 : tie.Need-returns-2
