@@ -9,7 +9,7 @@ use Rattle.cards.specs.Cards.{someCard, isWithin}
 use Rattle.bus.specs.Sense.{drivingFits, standingFits, makesSense}
 use Rattle.bus.specs.Steps.{afterLooksOf}
 use Rattle.outcome.specs.Outcomes.{outcomeRefusal, settledOutcome, outcomeOf}
-use Rattle.outcome.specs.Examples.{ThreeContend, SixteenContend, AloneWins, OutcomeRefusals}
+use Rattle.outcome.specs.Examples.{ThreeContend, SixteenContend, LowContend, AloneWins, OutcomeRefusals}
 
 pub three-contend : ThreeContend
 unfolding allBelow orBelow everyListed firstOf highestBelow look everyContender shown looked settled someCard isWithin drivingFits standingFits
@@ -20,6 +20,11 @@ pub sixteen-contend : SixteenContend
 unfolding allBelow orBelow everyListed firstOf highestBelow look everyContender shown looked settled someCard isWithin drivingFits standingFits
     makesSense afterLooksOf outcomeRefusal settledOutcome outcomeOf
 sixteen-contend = record { cardZero = refl; seven = refl; eight = refl; twelve = refl; thirteen = refl; fourteen = refl; fifteen = refl }
+
+pub low-contend : LowContend
+unfolding allBelow orBelow everyListed firstOf highestBelow look everyContender shown looked settled someCard isWithin drivingFits standingFits
+    makesSense afterLooksOf outcomeRefusal settledOutcome outcomeOf
+low-contend = record { three = refl; five = refl; six = refl }
 
 pub alone-wins : AloneWins
 unfolding allBelow orBelow everyListed firstOf highestBelow look everyContender shown looked settled someCard isWithin drivingFits standingFits

@@ -40,6 +40,16 @@ pub record SixteenContend : Type 0 where
   pub fourteen : figuresFor allSixteen 14 ≡ figures 0x00 0x0E 0x00 0x0F
   pub fifteen : figuresFor allSixteen 15 ≡ figures 0x00 0x0F 0xFF 0xFF
 
+-- ---- Cards 3, 5 and 6, none of which drives line 3: the lines show 6, 0110; 3 is 0011, 5 is 0101
+
+abbrev pub lowThree : Bus
+lowThree = afterLooksOf (contending 0x0068) (6 ∷ 5 ∷ 3 ∷ [])
+
+pub record LowContend : Type 0 where
+  pub three : figuresFor lowThree 3 ≡ figures 0x00 0x03 0x02 0x06
+  pub five : figuresFor lowThree 5 ≡ figures 0x00 0x05 0x01 0x06
+  pub six : figuresFor lowThree 6 ≡ figures 0x00 0x06 0xFF 0xFF
+
 -- ---- One card alone
 
 pub record AloneWins : Type 0 where
