@@ -13,7 +13,7 @@ use session::Stage;
 use session::WANTS_OUTCOMES;
 
 // Behind what was written for lines.
-pub fn close(wanted: u8, fed: Fed, out: &mut [u8]) -> Fed
+pub fn close(wanted: u8, mut fed: Fed, out: &mut [u8]) -> Fed
     requires { ⌜ fed .written ≤ length (now out) ⌝ }
     ensures more { λ r. ⌜ r ≡
         withMore fed (length (closedIn (wantedBy wanted) (length (now (out .entry)) - fed .written) (fed .session))) ⌝ }
@@ -23,12 +23,8 @@ pub fn close(wanted: u8, fed: Fed, out: &mut [u8]) -> Fed
     let session = fed.session;
     let written = fed.written;
     let more = put_closing(wanted, session, &mut out[written..]);
-    Fed {
-        refusal: fed.refusal,
-        session: session,
-        held: fed.held,
-        written: written + more,
-    }
+    fed.written = written + more;
+    fed
 }
 
 fn put_closing(wanted: u8, session: Session, rest: &mut [u8]) -> usize

@@ -9,8 +9,8 @@ use Rattle.feeding.proofs.closing.close.Tie as tie
 abbrev start : tie.After-put-closing → tie.Start
 start c = c .before .before .before .before
 
-add-t8 : tie.Need-add-t8
-add-t8 c =
+add-fed : tie.Need-add-fed
+add-fed c =
     let put = c .before .before in
     let from = start put in
     record {
@@ -36,6 +36,6 @@ close-spec =
     (λ c. search needs)
     (λ c. search needs)
     (λ c κs. search needs)
-    add-t8
+    add-fed
     (λ c. search needs)
     returns)
