@@ -1,4 +1,5 @@
-// Cards 4, 9 and 10 look in the order of M1 to M4 (01, "Marked for proof"), in Rust: three rounds are too few to settle the lines.
+// Cards 4, 9 and 10 look in the order of M1 to M4 (01, "Marked for proof"), in Rust: three rounds are too few to settle the lines. Once they are
+// settled, 4 and 9 are told why they lose (02, CR 4).
 
 #[link(name = "s100_c", kind = "static")]
 extern "C" {
@@ -18,6 +19,7 @@ extern "C" {
         answer_length: usize,
     ) -> u8;
     fn s100_settle(state: *mut u8, state_length: usize, cards: *const u8, cards_length: usize, looks: *mut usize) -> u8;
+    fn s100_why(state: *const u8, state_length: usize, card: u8, outcome: *mut u8, outcome_length: usize) -> u8;
     fn s100_fitted(state: *const u8, state_length: usize) -> u32;
     fn s100_lines(state: *const u8, state_length: usize) -> u32;
 }
@@ -40,6 +42,17 @@ fn settle(state: &mut [u8], cards: &[u8]) -> (u8, usize) {
     (unsafe { s100_settle(state.as_mut_ptr(), state.len(), cards.as_ptr(), cards.len(), &mut looks) }, looks)
 }
 
+/// What is told of a card, in words.
+fn why(state: &[u8], card: u8) -> String {
+    let mut outcome = [0; 4];
+    let refusal = unsafe { s100_why(state.as_ptr(), state.len(), card, outcome.as_mut_ptr(), outcome.len()) };
+    match (refusal, outcome) {
+        (0, [.., NO_LINE, NOBODY]) => format!("card {card} wins"),
+        (0, [.., line, rival]) => format!("card {card} loses at line {line} to card {rival}"),
+        _ => format!("card {card} is answered {refusal:02X}"),
+    }
+}
+
 fn fitted(state: &[u8]) -> u32 {
     unsafe { s100_fitted(state.as_ptr(), state.len()) }
 }
@@ -53,6 +66,7 @@ const REQUEST: u8 = 1;
 const LOOK: u8 = 2;
 const ACKNOWLEDGE: u8 = 3;
 const NOBODY: u8 = 0xFF;
+const NO_LINE: u8 = 0xFF;
 
 const CARDS: u16 = 1 << 4 | 1 << 9 | 1 << 10;
 const LOOKS: [u8; 12] = [4, 9, 10, 9, 10, 4, 9, 10, 4, 9, 10, 4];
@@ -84,5 +98,6 @@ fn main() {
         let mut state = requested;
         let (refusal, taken) = settle(&mut state, looks);
         println!("settle over {title}: answer {refusal:02X}, looks taken {taken}, the lines show {}", lines(&state));
+        println!("why: {}; {}; {}", why(&state, 4), why(&state, 9), why(&state, 10));
     }
 }
