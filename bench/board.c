@@ -1,4 +1,4 @@
-/* What a board without an operating system brings to run s100 or s100_pins: a place for the stack, a start, and the functions that the compiled
+/* What a board without an operating system brings to run one of the text programs: a place for the stack, a start, and the functions that the compiled
    program calls, which are read, write and those that copy and clear memory. Here read and write ask the system that an emulator of an Arm
    processor stands for, so that the program can be tried; a board would ask its serial line. Sizes have 64 bits, as in the program's code.
 
