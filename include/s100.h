@@ -137,7 +137,7 @@ extern "C" {
 #define S100_ACCEPTED 0x00
 #define S100_REFUSED_WRONG_BUFFERS 0x01     /* memory or ports of a wrong length */
 #define S100_REFUSED_SENSELESS 0x02         /* a state that makes no sense */
-#define S100_REFUSED_MALFORMED 0x03         /* no such kind, a field that the event can't have; where cards are asked about, a number above 15 */
+#define S100_REFUSED_MALFORMED 0x03         /* no such kind, a field that the event can't have; a card above 15 that settle lists or an outcome is asked for */
 #define S100_REFUSED_NAMES_NOBODY 0x04      /* a request by no card */
 #define S100_REFUSED_NOT_FITTED 0x05        /* a card is named that isn't fitted */
 #define S100_REFUSED_WRONG_PHASE 0x06       /* not in this phase */
@@ -192,11 +192,11 @@ uint8_t s100_picture(uint8_t kind, uint32_t address, const uint8_t *answer, size
 uint8_t s100_read_picture(const uint8_t *line, size_t line_length, uint8_t *seen, size_t seen_length);
 
 /* Tells whether a card wins the arbitration that the state is in, and if not, why: the highest priority line at which its number has 0 and the
- * lines show 1, and the highest-numbered contender that drives that line. The four bytes are written in either case: where the card wins, and
+ * lines show 1, and the highest-numbered contender that drives that line. The four bytes are written in every case: where the card wins, and
  * where the call is refused, S100_NO_LINE and S100_NOBODY stand for line and rival. The refusal is returned: a senseless state, a card above 15,
  * one that isn't fitted, a phase other than arbitration, a card that doesn't contend, lines that aren't settled, the first of these that applies.
  * The state is only read. Where a length is wrong nothing is written, and S100_WRONG_LENGTH is returned. */
-uint8_t s100_why(const uint8_t *state, size_t state_length, uint8_t card, uint8_t *outcome, size_t outcome_length);
+uint8_t s100_outcome(const uint8_t *state, size_t state_length, uint8_t card, uint8_t *outcome, size_t outcome_length);
 
 /* Fields can be read of any state, also of one that makes no sense; where there is no such field it is S100_NO_FIELD. */
 

@@ -15,7 +15,7 @@ uint8_t inner_s100_step(const struct slice *state, uint8_t kind, uint8_t speaker
 uint8_t inner_s100_settle(const struct slice *state, const struct slice *cards, size_t *looks);
 uint8_t inner_s100_picture(uint8_t kind, uint32_t address, const struct slice *answer, const struct slice *lines);
 uint8_t inner_s100_read_picture(const struct slice *line, const struct slice *seen);
-uint8_t inner_s100_why(const struct slice *state, uint8_t card, const struct slice *outcome);
+uint8_t inner_s100_outcome(const struct slice *state, uint8_t card, const struct slice *outcome);
 bool inner_s100_makes_sense(const struct slice *state);
 
 uint8_t s100_setup(uint16_t fitted, const uint8_t *pages, size_t pages_length, uint8_t *state, size_t state_length) {
@@ -39,8 +39,8 @@ uint8_t s100_read_picture(const uint8_t *line, size_t line_length, uint8_t *seen
     return inner_s100_read_picture(SLICE(line), SLICE(seen));
 }
 
-uint8_t s100_why(const uint8_t *state, size_t state_length, uint8_t card, uint8_t *outcome, size_t outcome_length) {
-    return inner_s100_why(SLICE(state), card, SLICE(outcome));
+uint8_t s100_outcome(const uint8_t *state, size_t state_length, uint8_t card, uint8_t *outcome, size_t outcome_length) {
+    return inner_s100_outcome(SLICE(state), card, SLICE(outcome));
 }
 
 bool s100_makes_sense(const uint8_t *state, size_t state_length) {

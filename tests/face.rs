@@ -73,7 +73,7 @@ mod library {
         pub fn s100_settle(state: *mut u8, state_length: usize, cards: *const u8, cards_length: usize, looks: *mut usize) -> u8;
         pub fn s100_picture(kind: u8, address: u32, answer: *const u8, answer_length: usize, lines: *mut u8, lines_length: usize) -> u8;
         pub fn s100_read_picture(line: *const u8, line_length: usize, seen: *mut u8, seen_length: usize) -> u8;
-        pub fn s100_why(state: *const u8, state_length: usize, card: u8, outcome: *mut u8, outcome_length: usize) -> u8;
+        pub fn s100_outcome(state: *const u8, state_length: usize, card: u8, outcome: *mut u8, outcome_length: usize) -> u8;
         pub fn s100_fitted(state: *const u8, state_length: usize) -> u32;
         pub fn s100_page(state: *const u8, state_length: usize, page: u8) -> u32;
         pub fn s100_phase(state: *const u8, state_length: usize) -> u32;
@@ -121,7 +121,7 @@ pub fn read_picture(line: &[u8], seen: &mut [u8]) -> u8 {
 }
 
 pub fn why(state: &[u8], card: u8, outcome: &mut [u8]) -> u8 {
-    unsafe { library::s100_why(state.as_ptr(), state.len(), card, outcome.as_mut_ptr(), outcome.len()) }
+    unsafe { library::s100_outcome(state.as_ptr(), state.len(), card, outcome.as_mut_ptr(), outcome.len()) }
 }
 
 pub fn field(field: Field, state: &[u8]) -> u32 {

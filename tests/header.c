@@ -60,12 +60,12 @@ static void step(uint8_t kind, uint8_t speaker, uint32_t address, uint16_t datum
 }
 
 static void why(uint8_t card) {
-    print_number("s100_why", s100_why(state, sizeof state, card, outcome, sizeof outcome));
+    print_number("s100_outcome", s100_outcome(state, sizeof state, card, outcome, sizeof outcome));
     print_bytes("outcome", outcome, sizeof outcome);
 }
 
-/* Cards 1 and 3 contend until 3 has won, and are asked about before the lines are settled and then, with card 2, which isn't fitted; then the
-   permanent master writes a word, over the sixteen-bit page. */
+/* Cards 1 and 3 contend until 3 has won: card 1 is asked about before the lines are settled, and all three once they are, card 2 too, which isn't
+   fitted. Then the permanent master writes a word, over the sixteen-bit page. */
 static void arbitrate(void) {
     const uint8_t pages[S100_PAGES_SIZE] = {S100_PAGE_EIGHT_BIT, S100_PAGE_SIXTEEN_BIT};
     const uint8_t looking[] = {1, 3, 1, 3};

@@ -19,7 +19,7 @@ extern "C" {
         answer_length: usize,
     ) -> u8;
     fn s100_settle(state: *mut u8, state_length: usize, cards: *const u8, cards_length: usize, looks: *mut usize) -> u8;
-    fn s100_why(state: *const u8, state_length: usize, card: u8, outcome: *mut u8, outcome_length: usize) -> u8;
+    fn s100_outcome(state: *const u8, state_length: usize, card: u8, outcome: *mut u8, outcome_length: usize) -> u8;
     fn s100_fitted(state: *const u8, state_length: usize) -> u32;
     fn s100_lines(state: *const u8, state_length: usize) -> u32;
 }
@@ -45,7 +45,7 @@ fn settle(state: &mut [u8], cards: &[u8]) -> (u8, usize) {
 /// What is told of a card, in words.
 fn why(state: &[u8], card: u8) -> String {
     let mut outcome = [0; 4];
-    let refusal = unsafe { s100_why(state.as_ptr(), state.len(), card, outcome.as_mut_ptr(), outcome.len()) };
+    let refusal = unsafe { s100_outcome(state.as_ptr(), state.len(), card, outcome.as_mut_ptr(), outcome.len()) };
     match (refusal, outcome) {
         (0, [.., NO_LINE, NOBODY]) => format!("card {card} wins"),
         (0, [.., line, rival]) => format!("card {card} loses at line {line} to card {rival}"),

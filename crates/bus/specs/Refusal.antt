@@ -12,7 +12,7 @@ wrongBuffers = 0x01
 abbrev pub senseless : ℕ
 senseless = 0x02
 
--- a field that no such event has; a number in settle's list that is no card's
+-- a field that no such event has; a number that is no card's, in settle's list or where an outcome is asked for
 abbrev pub malformed : ℕ
 malformed = 0x03
 

@@ -115,7 +115,8 @@ fn feed_refusal(bus: Bus, text: &[u8], filled: usize, memory: &[u8], ports: &[u8
     }
 }
 
-// The end of the input ends the line that is held, as a newline would, unless one ends it already; what is written then stands behind it.
+// The end of the input ends the line that is held, as a newline would, unless one ends it already; what is written at the end stands
+// behind what that line got.
 pub fn finish(
     wanted: u8,
     session: Session,

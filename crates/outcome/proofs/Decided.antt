@@ -233,6 +233,7 @@ reason-is-true bus card line rival told =
     subst (TrueReason bus card line) (is .rivalIs)
     (subst (λ (l : ℕ). TrueReason bus card l (linesOf bus)) (is .lineIs)
     (let part = parts bus settled card contends (is .below) in record {
+      oneOfFour = part .within;
       contends = winner-is bus settled .contender;
       outranks = is .below;
       agrees = λ k above h. sym (part .alike k above h);

@@ -70,8 +70,9 @@ pub record OutcomeRefusals : Type 0 where
   pub malformed : figuresFor oneFitted 16 ≡ figures 0x03 0x10 0xFF 0xFF
   pub malformedHigh : figuresFor oneFitted 0xFF ≡ figures 0x03 0xFF 0xFF 0xFF
   pub unfitted : figuresFor oneFitted 3 ≡ figures 0x05 0x03 0xFF 0xFF
-  -- in arbitration too, and in another phase also where the card is granted or idle
+  -- in arbitration too
   pub unfittedThere : figuresFor (requested oneFitted 0x0002) 3 ≡ figures 0x05 0x03 0xFF 0xFF
+  -- in another phase, also where the card is granted
   pub elsewhere : figuresFor oneFitted 1 ≡ figures 0x06 0x01 0xFF 0xFF
   pub owner : figuresFor (stateOf 0x0002 eightBit Phase.owned 0 silent 1) 1 ≡ figures 0x06 0x01 0xFF 0xFF
   -- an idle card, though the lines are unsettled

@@ -6,6 +6,7 @@ use mathlib.Core.Bool.{true, false}
 use mathlib.Core.List.{List, [], _∷_}
 use lib.ListN.{getD}
 use Rattle.words.specs.Bits.{bitAt}
+use Rattle.words.specs.Among.{isAmong}
 use Rattle.words.specs.First.{appliesAs}
 use Rattle.lines.specs.Arbitration.{Contender, Highest}
 use Rattle.cards.specs.Cards.{cardIn}
@@ -21,14 +22,14 @@ use Rattle.outcome.specs.declared.figures.Outcome.the-variants.{Wins, Lo
 
 -- ---- When it is refused
 
--- The answer's number is n exactly where n is among the six reasons and no lower number is,
+-- The answer's number is n exactly where n is among the six reasons to refuse and no lower number is,
 abbrev pub OutcomeByNumber : Type 0
 OutcomeByNumber =
     (bus : Bus) (card n : ℕ) → 0 < n
     → (figuresFor bus card .answer ≡ n)
     ↔ ((appliesAs n (outcomeReasons bus card) ≡ true) × ((k : ℕ) → k < n → appliesAs k (outcomeReasons bus card) ≡ false))
 
--- what the request asks for: a sensible state in arbitration with settled lines, and a contender
+-- what 02 asks for: a sensible state in arbitration with settled lines, and a contender
 pub record Asked (bus : Bus) (card : ℕ) : Type 0 where
   pub sense : Sensible bus
   pub number : card ≤ 15
@@ -40,6 +41,23 @@ pub record Asked (bus : Bus) (card : ℕ) : Type 0 where
 -- and 0 exactly where all that is so.
 abbrev pub AnsweredIfAsked : Type 0
 AnsweredIfAsked = (bus : Bus) (card : ℕ) → (figuresFor bus card .answer ≡ Refusal.accepted) ↔ Asked bus card
+
+-- each number, in 02's words and order
+pub record RefusedFor (bus : Bus) (card : ℕ) : Type 0 where
+  pub senseless : (figuresFor bus card .answer ≡ 0x02) ↔ (Sensible bus → ⊥)
+  pub noCard : (figuresFor bus card .answer ≡ 0x03) ↔ (Sensible bus × (15 < card))
+  pub notFitted : (figuresFor bus card .answer ≡ 0x05) ↔ (Sensible bus × ((card ≤ 15) × (cardIn (bus .fitted) card ≡ false)))
+  pub elsewhere : (figuresFor bus card .answer ≡ 0x06) ↔ (Sensible bus × ((cardIn (bus .fitted) card ≡ true) × (bus .phase ≡ 1 → ⊥)))
+  pub idle : (figuresFor bus card .answer ≡ 0x07)
+      ↔ (Sensible bus × ((cardIn (bus .fitted) card ≡ true) × ((bus .phase ≡ 1) × (cardIn (bus .contenders) card ≡ false))))
+  pub unsettled : (figuresFor bus card .answer ≡ 0x08)
+      ↔ (Sensible bus × ((bus .phase ≡ 1) × ((cardIn (bus .contenders) card ≡ true) × (isSettled bus ≡ false))))
+
+-- These six are given exactly so, and no other number but 0 is.
+abbrev pub OutcomeRefused : Type 0
+OutcomeRefused =
+    (bus : Bus) (card : ℕ)
+    → RefusedFor bus card × (isAmong (figuresFor bus card .answer) (0x00 ∷ 0x02 ∷ 0x03 ∷ 0x05 ∷ 0x06 ∷ 0x07 ∷ 0x08 ∷ []) ≡ true)
 
 -- The numbers mean what they mean in settle: of state and card a refusal is that of a list with this card alone, and where that is in order, it is
 -- that of the empty list, over which no look is taken.
@@ -83,7 +101,7 @@ OneWins = (bus : Bus) → SettledArbitration bus → (card : ℕ) × Winner bus 
 
 -- ---- Why the others lose
 
--- the request's own words: of the four lines this is the highest at which the card's number has 0 and the lines show 1, and of the contenders
+-- 02's own words: of the four lines this is the highest at which the card's number has 0 and the lines show 1, and of the contenders
 -- that drive it this is the highest-numbered
 pub record LosesTo (bus : Bus) (card line rival : ℕ) : Type 0 where
   pub oneOfFour : line < 4
@@ -94,7 +112,7 @@ pub record LosesTo (bus : Bus) (card line rival : ℕ) : Type 0 where
   pub drives : bitAt (getD (bus .driven) rival 0) line ≡ true
   pub nobodyHigher : (q : ℕ) → Contender (arbitrationOf bus) q → bitAt (getD (bus .driven) q 0) line ≡ true → q ≤ rival
 
--- a card's reason for losing: it is told this line and this rival, they are as the request has them, and no others are
+-- a card's reason for losing: it is told this line and this rival, they are as 02 has them, and no others are
 pub record LosesBy (bus : Bus) (card line rival : ℕ) : Type 0 where
   pub loses : outcomeOf bus card ≡ Loses (loss line rival)
   pub told : figuresFor bus card ≡ figures 0x00 card line rival
@@ -110,6 +128,7 @@ OthersLose =
 -- what a card learns from its reason: the rival contends, has the higher number, and the same as the card at each higher line; at the line it has
 -- 1 where the card has 0, and drives it; an acknowledge is accepted next, and doesn't grant the card
 pub record TrueReason (bus : Bus) (card line rival : ℕ) : Type 0 where
+  pub oneOfFour : line < 4
   pub contends : Contender (arbitrationOf bus) rival
   pub outranks : card < rival
   pub agrees : (k : ℕ) → line < k → k < 4 → bitAt rival k ≡ bitAt card k

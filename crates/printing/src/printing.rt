@@ -69,7 +69,7 @@ pub fn put_numbers(part: &mut [u8], first: u8, second: u8, third: u8, fourth: u8
     part[7] = digit(fourth);
 }
 
-// The rest of it: what was on the bus besides, and the newline.
+// The rest of the answer line: what was on the bus besides, and the newline.
 fn put_cycle(part: &mut [u8], signals: u8, status: u8, cycles: u8, datum: u16)
     requires { ⌜ length (now part) ≡ answerLength - placeOf 4 answerWidths ⌝ }
     ensures { λ _. ⌜ now (part .exit) ≡ digitsOf 2 signals ++ digitsOf 2 status ++ digitsOf 2 cycles ++ digitsOf 4 datum ++ newline ∷ [] ⌝ }

@@ -32,7 +32,7 @@ struct Filled {
 pub fn run(wanted: u8, input: i32)
     ensures { λ r. ⌜ r ≡ tt ⌝ }
 {
-    // A text full of right lines has its answers written at once. Less room, down to 22 bytes of text and the most that a line gets, would do
+    // A text full of right lines has its answers written at once. Less room, down to 22 bytes of text and the most that is written at once, would do
     // with more calls of the system (docs/BENCH.md).
     let mut text = [0u8; 32768];
     let mut out = [0u8; 41984];

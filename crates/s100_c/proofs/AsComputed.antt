@@ -21,8 +21,8 @@ use Rattle.pins.specs.Picture.{levelsOf, drivenOf, linesFor}
 use Rattle.pins.specs.ReadAgain.{gathered, pictureIn}
 use Rattle.s100_c.specs.Layout.{stateBytes, busIn, answerBytes, answerIn}
 use Rattle.s100_c.specs.Calls.{stepAnswers, stepLeaves}
-use Rattle.s100_c.specs.Outcomes.{whyAnswers, whyLeaves}
-use Rattle.s100_c.specs.Examples.{BytesInPlace, FieldsInPlace, SetupCalls, StepCalls, SettleCalls, WhyCalls, PictureCalls}
+use Rattle.s100_c.specs.Outcomes.{outcomeAnswers, outcomeLeaves}
+use Rattle.s100_c.specs.Examples.{BytesInPlace, FieldsInPlace, SetupCalls, StepCalls, SettleCalls, OutcomeCalls, PictureCalls}
 
 pub bytes-in-place : BytesInPlace
 unfolding busIn stateBytes answerBytes answerIn
@@ -85,10 +85,10 @@ settle-calls = record {
   shortCounts = refl;
 }
 
-pub why-calls : WhyCalls
+pub outcome-calls : OutcomeCalls
 unfolding busIn allBelow orBelow look everyContender shown looked settled someCard isWithin firstOf highestBelow everyListed drivingFits standingFits makesSense
-    outcomeRefusal settledOutcome outcomeOf whyAnswers whyLeaves
-why-calls = record {
+    outcomeRefusal settledOutcome outcomeOf outcomeAnswers outcomeLeaves
+outcome-calls = record {
   nineLoses = refl;
   nineAnswers = refl;
   tenWins = refl;

@@ -30,7 +30,7 @@ use Rattle.pins.specs.Picture.{pictureDigits}
 use Rattle.pins.specs.ReadAgain.{pictureIn}
 use Rattle.pins.proofs.DigitLaws.{pictures-fit}
 use Rattle.s100_c.specs.Layout.{isState, busIn, answerIn}
-use Rattle.s100_c.specs.Outcomes.{whyFits, whyAnswers}
+use Rattle.s100_c.specs.Outcomes.{outcomeFits, outcomeAnswers}
 use Rattle.s100_c.specs.Pictures.{picturesFor, pictureFits, isSeen}
 use Rattle.s100_c.specs.Calls.{setupFits, machineIn, placesFit}
 use Rattle.s100_c.specs.Promises.{WrongLengthIsOwn}
@@ -70,7 +70,7 @@ told true same low e = absurd (omega (arith, same refl, low, e))
 told false same low e = refl
 
 pub wrong-length-is-own : WrongLengthIsOwn
-unfolding whyAnswers
+unfolding outcomeAnswers
 wrong-length-is-own = (
   λ given state. told (setupFits given state) (λ fits. setup-is-the-setup given state fits .0) (setup-small given),
   (
@@ -86,7 +86,7 @@ wrong-length-is-own = (
         (
           λ line place. told (isSeen place) {n = pictureIn line .refusal} (λ fits. rw fits refl) (read-small line),
           λ state card place.
-              told (whyFits state place) {n = figuresFor (busIn state) card .answer} (λ fits. rw fits refl) (outcome-small (busIn state) card),
+              told (outcomeFits state place) {n = figuresFor (busIn state) card .answer} (λ fits. rw fits refl) (outcome-small (busIn state) card),
         ),
       ),
     ),

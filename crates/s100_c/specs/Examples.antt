@@ -29,7 +29,7 @@ use Rattle.s100_c.specs.Calls.{
   entryOf,
   isSensible,
 }
-use Rattle.s100_c.specs.Outcomes.{whyAnswers, whyLeaves}
+use Rattle.s100_c.specs.Outcomes.{outcomeAnswers, outcomeLeaves}
 use Rattle.s100_c.specs.Pictures.{pictureAnswers, pictureLeaves, readAnswers, readLeaves}
 
 -- ---- The layout: at every place the place's own number
@@ -149,17 +149,17 @@ pub record SettleCalls : Type 0 where
 abbrev pub settledThree : List ℕ
 settledThree = 0xFF ∷ 0xFF ∷ [] ++ replicate 16 1 ++ 0x01 ∷ 0x06 ∷ 0x10 ∷ [] ++ replicate 9 0 ++ 8 ∷ 10 ∷ [] ++ replicate 5 0 ++ 0xFF ∷ []
 
-pub record WhyCalls : Type 0 where
-  pub nineLoses : whyLeaves settledThree 9 (replicate 4 0x55) ≡ 0x00 ∷ 0x09 ∷ 0x01 ∷ 0x0A ∷ []
-  pub nineAnswers : whyAnswers settledThree 9 (replicate 4 0x55) ≡ Refusal.accepted
-  pub tenWins : whyLeaves settledThree 10 (replicate 4 0x55) ≡ 0x00 ∷ 0x0A ∷ 0xFF ∷ 0xFF ∷ []
-  pub tooSoon : whyLeaves fourNineTen 9 (replicate 4 0x55) ≡ 0x08 ∷ 0x09 ∷ 0xFF ∷ 0xFF ∷ []
-  pub tooSoonAnswers : whyAnswers fourNineTen 9 (replicate 4 0x55) ≡ Refusal.unsettled
-  pub noCard : whyLeaves settledThree 0x10 (replicate 4 0x55) ≡ 0x03 ∷ 0x10 ∷ 0xFF ∷ 0xFF ∷ []
-  pub shortPlace : whyAnswers settledThree 9 (replicate 3 0x55) ≡ wrongLength
-  pub shortPlaceLeft : whyLeaves settledThree 9 (replicate 3 0x55) ≡ replicate 3 0x55
-  pub longState : whyAnswers (settledThree ++ 0 ∷ []) 9 (replicate 4 0x55) ≡ wrongLength
-  pub longStateLeft : whyLeaves (settledThree ++ 0 ∷ []) 9 (replicate 4 0x55) ≡ replicate 4 0x55
+pub record OutcomeCalls : Type 0 where
+  pub nineLoses : outcomeLeaves settledThree 9 (replicate 4 0x55) ≡ 0x00 ∷ 0x09 ∷ 0x01 ∷ 0x0A ∷ []
+  pub nineAnswers : outcomeAnswers settledThree 9 (replicate 4 0x55) ≡ Refusal.accepted
+  pub tenWins : outcomeLeaves settledThree 10 (replicate 4 0x55) ≡ 0x00 ∷ 0x0A ∷ 0xFF ∷ 0xFF ∷ []
+  pub tooSoon : outcomeLeaves fourNineTen 9 (replicate 4 0x55) ≡ 0x08 ∷ 0x09 ∷ 0xFF ∷ 0xFF ∷ []
+  pub tooSoonAnswers : outcomeAnswers fourNineTen 9 (replicate 4 0x55) ≡ Refusal.unsettled
+  pub noCard : outcomeLeaves settledThree 0x10 (replicate 4 0x55) ≡ 0x03 ∷ 0x10 ∷ 0xFF ∷ 0xFF ∷ []
+  pub shortPlace : outcomeAnswers settledThree 9 (replicate 3 0x55) ≡ wrongLength
+  pub shortPlaceLeft : outcomeLeaves settledThree 9 (replicate 3 0x55) ≡ replicate 3 0x55
+  pub longState : outcomeAnswers (settledThree ++ 0 ∷ []) 9 (replicate 4 0x55) ≡ wrongLength
+  pub longStateLeft : outcomeLeaves (settledThree ++ 0 ∷ []) 9 (replicate 4 0x55) ≡ replicate 4 0x55
 
 -- ---- Pictures: a reset leaves a free bus
 

@@ -19,12 +19,12 @@ outcomeSize = total (widthsOf outcomeLayout)
 abbrev pub outcomeBytes : Figures → List ℕ
 outcomeBytes f = laidOut outcomeLayout f
 
-abbrev pub whyFits : List ℕ → List ℕ → Bool
-whyFits state place = isState state && eqb (length place) outcomeSize
+abbrev pub outcomeFits : List ℕ → List ℕ → Bool
+outcomeFits state place = isState state && eqb (length place) outcomeSize
 
-unfoldable pub whyAnswers : List ℕ → ℕ → List ℕ → ℕ
-whyAnswers state card place = cond (whyFits state place) (figuresFor (busIn state) card .answer) wrongLength
+unfoldable pub outcomeAnswers : List ℕ → ℕ → List ℕ → ℕ
+outcomeAnswers state card place = cond (outcomeFits state place) (figuresFor (busIn state) card .answer) wrongLength
 
 -- of a refused call too
-unfoldable pub whyLeaves : List ℕ → ℕ → List ℕ → List ℕ
-whyLeaves state card place = cond (whyFits state place) (outcomeBytes (figuresFor (busIn state) card)) place
+unfoldable pub outcomeLeaves : List ℕ → ℕ → List ℕ → List ℕ
+outcomeLeaves state card place = cond (outcomeFits state place) (outcomeBytes (figuresFor (busIn state) card)) place

@@ -35,7 +35,7 @@ use Rattle.s100_c.specs.Calls.{
   settleLeaves,
   settleCounts,
 }
-use Rattle.s100_c.specs.Outcomes.{whyFits, whyAnswers, whyLeaves}
+use Rattle.s100_c.specs.Outcomes.{outcomeFits, outcomeAnswers, outcomeLeaves}
 use Rattle.s100_c.specs.Pictures.{pictureFits, pictureAnswers, pictureLeaves, isSeen, readAnswers, readLeaves}
 use Rattle.s100_c.specs.Run.{Placed, bytesAfter, callsTaken}
 
@@ -93,7 +93,7 @@ WrongLengthIsOwn =
     × (((state cards : List ℕ) → settleAnswers state cards ≡ wrongLength → isState state ≡ false)
     × (((kind address : ℕ) (answer place : List ℕ) → pictureAnswers kind address answer place ≡ wrongLength → pictureFits answer place ≡ false)
     × (((line place : List ℕ) → readAnswers line place ≡ wrongLength → isSeen place ≡ false)
-    × ((state : List ℕ) (card : ℕ) (place : List ℕ) → whyAnswers state card place ≡ wrongLength → whyFits state place ≡ false)))))
+    × ((state : List ℕ) (card : ℕ) (place : List ℕ) → outcomeAnswers state card place ≡ wrongLength → outcomeFits state place ≡ false)))))
 
 -- ---- Else a call is the model's: decoding what it leaves gives what the model's function gives.
 
@@ -141,17 +141,17 @@ SettleRefusedKeepsBytes =
 -- ---- Outcomes
 
 -- With a state and a place for the four bytes the call is the model's: answer, card, line and rival.
-abbrev pub WhyIsTheOutcome : Type 0
-WhyIsTheOutcome =
+abbrev pub OutcomeIsTheOutcome : Type 0
+OutcomeIsTheOutcome =
     (state place : List ℕ) (card answer line rival : ℕ) → length state ≡ 38 → length place ≡ 4
     → figuresFor (busIn state) card ≡ figures answer card line rival
-    → (whyAnswers state card place ≡ answer) × (whyLeaves state card place ≡ answer ∷ card ∷ line ∷ rival ∷ [])
+    → (outcomeAnswers state card place ≡ answer) × (outcomeLeaves state card place ≡ answer ∷ card ∷ line ∷ rival ∷ [])
 
 -- With a wrong length nothing is written.
-abbrev pub WhyMisfits : Type 0
-WhyMisfits =
+abbrev pub OutcomeMisfits : Type 0
+OutcomeMisfits =
     (state place : List ℕ) (card : ℕ) → ((length state ≡ 38) × (length place ≡ 4) → ⊥)
-    → (whyAnswers state card place ≡ wrongLength) × (whyLeaves state card place ≡ place)
+    → (outcomeAnswers state card place ≡ wrongLength) × (outcomeLeaves state card place ≡ place)
 
 -- ---- Pictures
 

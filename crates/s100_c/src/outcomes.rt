@@ -1,6 +1,6 @@
 // The outcome of an arbitration for one card, of a state in a lent buffer.
 ghost use mathlib.Core.Path.{_≡_};
-ghost use Rattle.s100_c.specs.Outcomes.{whyAnswers, whyLeaves};
+ghost use Rattle.s100_c.specs.Outcomes.{outcomeAnswers, outcomeLeaves};
 use crate::layout::STATE_SIZE;
 use crate::layout::bus_in;
 use bus::numbers::*;
@@ -18,16 +18,16 @@ const RIVAL_AT: usize = LINE_AT + 1;
 const OUTCOME_SIZE: usize = RIVAL_AT + 1;
 
 #[no_mangle]
-pub extern "C" fn s100_why(state: &[u8], card: u8, told: &mut [u8]) -> u8
-    ensures answers { λ r. ⌜ r ≡ whyAnswers (now (state .entry)) card (now (told .entry)) ⌝ }
-    ensures leaves { λ _. ⌜ now (told .exit) ≡ whyLeaves (now (state .entry)) card (now (told .entry)) ⌝ }
+pub extern "C" fn s100_outcome(state: &[u8], card: u8, outcome: &mut [u8]) -> u8
+    ensures answers { λ r. ⌜ r ≡ outcomeAnswers (now (state .entry)) card (now (outcome .entry)) ⌝ }
+    ensures leaves { λ _. ⌜ now (outcome .exit) ≡ outcomeLeaves (now (state .entry)) card (now (outcome .entry)) ⌝ }
 {
-    if (state.len() == STATE_SIZE) & (told.len() == OUTCOME_SIZE) {
+    if (state.len() == STATE_SIZE) & (outcome.len() == OUTCOME_SIZE) {
         let figures = outcome_for(bus_in(state), card).figures(card);
-        told[REFUSAL_AT] = figures.answer;
-        told[CARD_AT] = figures.card;
-        told[LINE_AT] = figures.line;
-        told[RIVAL_AT] = figures.rival;
+        outcome[REFUSAL_AT] = figures.answer;
+        outcome[CARD_AT] = figures.card;
+        outcome[LINE_AT] = figures.line;
+        outcome[RIVAL_AT] = figures.rival;
         figures.answer
     } else {
         WRONG_LENGTH

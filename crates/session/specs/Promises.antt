@@ -143,7 +143,7 @@ RefusedSetupEnds =
     ≡ says wanted (world Awaiting bus memory ports) line ++ closing wanted (record { stage = Ended; bus = emptyBus }))
     × (turns (world Awaiting bus memory ports) line ≡ world Ended emptyBus memory ports)
 
--- Once a run has ended nothing is said, and no line changes anything.
+-- Once a run has ended nothing is said to a line, and no line changes anything.
 abbrev pub EndedStays : Type 0
 EndedStays = (wanted : Wanted) (w : World) (line : List ℕ) → w .session .stage ≡ Ended → (says wanted w line ≡ []) × (turns w line ≡ w)
 
@@ -224,7 +224,7 @@ AnyChunks =
     (wanted : Wanted) (calls : List (ℕ × List ℕ))
     → ranIn wanted calls .said ++ answers wanted (ranIn wanted calls .state) (textLines (ranIn wanted calls .held)) ≡ output wanted (wholeText calls)
 
--- A call that finds a newline, and room for the most that is written for a line, takes a line: so nothing complete stays held.
+-- A call that finds a newline, and room for the most that is written at once, takes a line: so nothing complete stays held.
 abbrev pub CallsGoOn : Type 0
 CallsGoOn =
     (wanted : Wanted) (w : World) (size : ℕ) (text : List ℕ) → hasNewline text ≡ true → mostSaid wanted ≤ size
@@ -283,7 +283,7 @@ NothingToEnd =
     × ((finishedWorld wanted w text held out ≡ worldLeft wanted w text held out)
     × ((finishedText wanted w text held out ≡ textLeft wanted w text held out) × (finishedOut wanted w text held out ≡ outLeft wanted w text held out)))
 
--- After a feed there is room to read more, where the text is longer than what is held of an unended line, and the most for a line had room.
+-- After a feed there is room to read more, where the text is longer than what is held of an unended line, and the most that is written at once had room.
 abbrev pub RoomToRead : Type 0
 RoomToRead =
     (wanted : Wanted) (w : World) (text : List ℕ) (filled : ℕ) (out : List ℕ)
@@ -311,7 +311,7 @@ FinishedInPlace =
     → take (finishedOf wanted w text held out .written) (finishedOut wanted w text held out) ≡ answers wanted w (textLines (take held text))
 
 -- So a whole run prints the output: calls on any chunks until no newline is held, and then a finish on a text that holds the rest and has
--- room for a newline, with room for the most that is written for a line.
+-- room for a newline, with room for the most that is written at once.
 abbrev pub WholeRun : Type 0
 WholeRun =
     (wanted : Wanted) (calls : List (ℕ × List ℕ)) (text out : List ℕ) → take (length (ranIn wanted calls .held)) text ≡ ranIn wanted calls .held

@@ -73,13 +73,13 @@ wantsOutcomes = 2
 unfoldable pub wantedBy : ℕ → Wanted
 wantedBy number = cond (eqb number wantsAnswers) Answers (cond (eqb number wantsOutcomes) Outcomes Pictures)
 
--- for a line that is no event: nothing of it is pictured
+-- for a line that is no event: nothing of it is pictured, and outcomes wait for the end
 abbrev pub replyAs : Wanted → Answer → List ℕ
 replyAs Answers answer = answerLine answer
 replyAs Pictures answer = []
 replyAs Outcomes answer = []
 
--- for an event: its pictures, if it is accepted
+-- for an event: its answer, or its pictures, if it is accepted; outcomes wait
 abbrev pub eventAs : Wanted → Event → Answer → List ℕ
 eventAs Answers event answer = answerLine answer
 eventAs Pictures event answer = picturesOf event answer

@@ -155,7 +155,7 @@ OutcomeReadsBack =
     (f : Figures)
     → ((isDigits 8 (take 8 (outcomeLine f)) ≡ true) × (drop 8 (outcomeLine f) ≡ 0x0A ∷ [])) × (FiguresFit f → outcomeOnLine (outcomeLine f) ≡ f)
 
--- The sixteen lines are 144 bytes, and from the ninth byte of each line on stands the next: card n's is the n-th, counted from 0.
+-- The sixteen lines are 144 bytes, and behind the ninth byte of each stands the next: card n's is the n-th, counted from 0.
 abbrev pub OutcomesInOrder : Type 0
 OutcomesInOrder =
     (bus : Bus)

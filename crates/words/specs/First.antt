@@ -1,4 +1,5 @@
--- The first of several that applies: of reasons to refuse, by number, and of the numbers below a bound.
+-- The first of several that applies: of reasons to refuse, by number, and of the numbers below a bound the least that passes a test; and the
+-- highest that does.
 use Prim.Native.Nat.{ℕ, zero, suc}
 use mathlib.Core.Bool.{Bool, true, false, cond, _&&_, _||_}
 use mathlib.Core.List.{List, [], _∷_}

@@ -12,16 +12,16 @@ use Rattle.bus.specs.declared.state.Bus.{Bus}
 use Rattle.outcome.specs.Outcomes.{figuresOf, figuresFor}
 use Rattle.outcome.specs.declared.figures.Figures.{Figures}
 use Rattle.s100_c.specs.Layout.{stateSize, busIn}
-use Rattle.s100_c.specs.Outcomes.{outcomeSize, outcomeBytes, whyAnswers, whyLeaves}
-use Rattle.s100_c.proofs.outcomes.s100_why.Statement.{statement}
-use Rattle.s100_c.proofs.outcomes.s100_why.Tie as tie
+use Rattle.s100_c.specs.Outcomes.{outcomeSize, outcomeBytes, outcomeAnswers, outcomeLeaves}
+use Rattle.s100_c.proofs.outcomes.s100_outcome.Statement.{statement}
+use Rattle.s100_c.proofs.outcomes.s100_outcome.Tie as tie
 
 abbrev at-start : tie.Then1 → tie.Start
 at-start c = c .before .before .before
 
-fits : (c : tie.Then1) → (length (at-start c .args .state .now) ≡ stateSize) × (length (at-start c .args .told .now) ≡ outcomeSize)
+fits : (c : tie.Then1) → (length (at-start c .args .state .now) ≡ stateSize) × (length (at-start c .args .outcome .now) ≡ outcomeSize)
 fits c =
-    let both = both-of (eqb (length (at-start c .args .state .now)) stateSize) (eqb (length (at-start c .args .told .now)) outcomeSize) (c .if1 .taken) in
+    let both = both-of (eqb (length (at-start c .args .state .now)) stateSize) (eqb (length (at-start c .args .outcome .now)) outcomeSize) (c .if1 .taken) in
     (eqb-true _ _ (both .0), eqb-true _ _ (both .1))
 
 abbrev at-then : tie.After-figures → tie.Then1
@@ -39,21 +39,21 @@ bus-in-requires : tie.Need-bus-in-requires
 bus-in-requires c κs = fits c .0
 
 returns : tie.Need-returns
-unfolding whyAnswers whyLeaves
+unfolding outcomeAnswers outcomeLeaves
 returns c =
     let fit = at-then c .if1 .taken in
-    let place = at-start (at-then c) .args .told .now in
+    let place = at-start (at-then c) .args .outcome .now in
     let stored = sets-all place (outcomeBytes (c .figures .result)) (sym (fits (at-then c) .1)) in (
       then-pick wrongLength fit (ap (λ (f : Figures). f .answer) (told-is c)),
       then-pick place fit (stored ∙ ap outcomeBytes (told-is c)),
     )
 
 returns-2 : tie.Need-returns-2
-unfolding whyAnswers whyLeaves
+unfolding outcomeAnswers outcomeLeaves
 returns-2 c = (else-pick _ (c .if1 .left) refl, else-pick _ (c .if1 .left) refl)
 
-pub s100-why-spec : {M : Type 1} → statement M
-s100-why-spec =
+pub s100-outcome-spec : {M : Type 1} → statement M
+s100-outcome-spec =
     tie.close
     (tie.spec
     bus-in-requires
