@@ -126,6 +126,10 @@ alone true e = e
 alone false e = e
 
 module _ (bus : Bus) (card : ℕ) where
+  -- the third reason
+  abbrev unfitted : Bool
+  unfitted = leb card 15 && not (cardIn (bus .fitted) card)
+
   -- a number that is given applies, and a lower one doesn't
   given : (n : ℕ) → 0 < n → figuresFor bus card .answer ≡ n → appliesAs n (outcomeReasons bus card) ≡ true
   given n some e = outcome-by-number bus card n some .0 e .0
@@ -146,7 +150,7 @@ module _ (bus : Bus) (card : ℕ) where
   unfolding appliesAs
   past-fitted n h e =
       let low = le-leb card 15 (past-number n (omega (arith, h)) e) in
-      not-false _ (rw low at (alone (leb card 15 && not (cardIn (bus .fitted) card)) (passed n (omega (arith, h)) e 5 h)))
+      not-false _ (rw low at (alone unfitted (passed n (omega (arith, h)) e 5 h)))
 
   past-phase : (n : ℕ) → 6 < n → figuresFor bus card .answer ≡ n → bus .phase ≡ 1
   unfolding appliesAs
@@ -157,9 +161,9 @@ module _ (bus : Bus) (card : ℕ) where
   past-turn n h e = not-false _ (alone _ (passed n (omega (arith, h)) e 7 h))
 
   -- and what applies where one of them is given
-  applied : figuresFor bus card .answer ≡ 2 → makesSense bus ≡ false
+  is-two : figuresFor bus card .answer ≡ 2 → makesSense bus ≡ false
   unfolding appliesAs
-  applied e = not-true _ (alone _ (given 2 (lit< tt) e))
+  is-two e = not-true _ (alone _ (given 2 (lit< tt) e))
 
   is-three : figuresFor bus card .answer ≡ 3 → 15 < card
   unfolding appliesAs
@@ -167,8 +171,7 @@ module _ (bus : Bus) (card : ℕ) where
 
   is-five : figuresFor bus card .answer ≡ 5 → cardIn (bus .fitted) card ≡ false
   unfolding appliesAs
-  is-five e =
-      not-true _ (and-eq-true-iff (leb card 15) (not (cardIn (bus .fitted) card)) .0 (alone (leb card 15 && not (cardIn (bus .fitted) card)) (given 5 (lit< tt) e)) .1)
+  is-five e = not-true _ (and-eq-true-iff (leb card 15) (not (cardIn (bus .fitted) card)) .0 (alone unfitted (given 5 (lit< tt) e)) .1)
 
   is-six : figuresFor bus card .answer ≡ 6 → bus .phase ≡ 1 → ⊥
   unfolding appliesAs
@@ -237,15 +240,14 @@ module _ (bus : Bus) (card : ℕ) where
   known-number : isAmong (outcomeRefusal bus card) (0 ∷ 2 ∷ 3 ∷ 5 ∷ 6 ∷ 7 ∷ 8 ∷ []) ≡ true
   unfolding outcomeRefusal firstOf
   known-number =
-      one-of (isSenseless bus) (ltb 15 card) (leb card 15 && not (cardIn (bus .fitted) card)) (isElsewhere bus) (not (cardIn (bus .contenders) card))
-      (not (isSettled bus))
+      one-of (isSenseless bus) (ltb 15 card) unfitted (isElsewhere bus) (not (cardIn (bus .contenders) card)) (not (isSettled bus))
 
 pub outcome-refused : OutcomeRefused
 outcome-refused bus card =
     let is = answer-is bus card in (
       record {
         senseless = (
-          λ e sense. true≢false (sym (sense-means bus .1 sense) ∙ applied bus card e),
+          λ e sense. true≢false (sym (sense-means bus .1 sense) ∙ is-two bus card e),
           λ none. is ∙ gives-two bus card (senseless bus card none),
         );
         noCard = (λ e. (past-sense bus card 3 (lit< tt) e, is-three bus card e), λ so. is ∙ gives-three bus card (so .0) (so .1));

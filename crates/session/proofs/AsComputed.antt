@@ -13,7 +13,16 @@ use Rattle.text.specs.Newlines.{linesAfter, lastLine}
 use Rattle.text.specs.OutcomeLine.{outcomesBelow}
 use Rattle.text.specs.Reading.{answersTo}
 use Rattle.session.specs.World.{wantedBy, outcomesLeft, saysBy, turnsBy, freshWorld}
-use Rattle.session.specs.Examples.{SetupOutputs, BadLineOutputs, PictureOutputs, OutcomeOutputs, WantedNumbers, FreshSession, CallRefusals}
+use Rattle.session.specs.Examples.{
+  SetupOutputs,
+  BadLineOutputs,
+  PictureOutputs,
+  OutcomeOutputs,
+  WantedNumbers,
+  MostWritten,
+  FreshSession,
+  CallRefusals,
+}
 
 pub setup-outputs : SetupOutputs
 unfolding beside signalsIn everyListed allBelow leastBelow orBelow shown numberAfter digitsOf linesAfter lastLine answersTo saysBy turnsBy freshWorld
@@ -46,6 +55,9 @@ outcome-outputs = record { refused = refl; unended = refl; blank = refl; empty =
 pub wanted-numbers : WantedNumbers
 unfolding wantedBy
 wanted-numbers = record { answers = refl; pictures = refl; outcomes = refl; other = refl }
+
+pub most-written : MostWritten
+most-written = record { answers = refl; pictures = refl; outcomes = refl }
 
 pub fresh-session : FreshSession
 fresh-session = record { waits = refl; noCards = refl; noPages = refl }

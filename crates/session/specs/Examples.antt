@@ -1,5 +1,5 @@
 -- Outputs of short texts, from the first line on.
-use Prim.Native.Nat.{ℕ}
+use Prim.Native.Nat.{ℕ, _*_}
 use mathlib.Core.Path.{_≡_}
 use mathlib.Core.Bool.{false}
 use mathlib.Core.List.{List, [], _∷_, _++_}
@@ -11,7 +11,7 @@ use Rattle.bus.specs.declared.state.Bus.{Bus}
 use Rattle.judgement.specs.Refusals.{hasWrongBuffers}
 use Rattle.text.specs.Newlines.{newline}
 use Rattle.text.specs.Examples.{wordWrite, thirteen, lowerA, withByteIn, setup}
-use Rattle.session.specs.World.{fresh, wantedBy}
+use Rattle.session.specs.World.{fresh, wantedBy, mostSaid}
 use Rattle.session.specs.Feeding.{feedRefusal}
 use Rattle.session.specs.Output.{output}
 use Rattle.session.specs.declared.state.Stage.the-variants.{Awaiting}
@@ -124,6 +124,12 @@ pub record WantedNumbers : Type 0 where
   pub pictures : wantedBy 1 ≡ Pictures
   pub outcomes : wantedBy 2 ≡ Outcomes
   pub other : wantedBy 0xFF ≡ Pictures
+
+-- The most bytes at once: an answer line, the two pictures of a word in two cycles, sixteen outcome lines.
+pub record MostWritten : Type 0 where
+  pub answers : mostSaid Answers ≡ 19
+  pub pictures : mostSaid Pictures ≡ 2 * 51
+  pub outcomes : mostSaid Outcomes ≡ 16 * 9
 
 -- ---- A session before its first line, and the refusals of a call
 

@@ -238,7 +238,7 @@ CallsAnswer =
 
 -- ---- What the two functions do with their buffers
 
--- An accepted feed writes answers or pictures to the front of `out`, and holds the rest at the front of `text`.
+-- An accepted feed writes what its lines get to the front of `out`, and holds the rest at the front of `text`.
 abbrev pub FedInPlace : Type 0
 FedInPlace =
     (wanted : Wanted) (w : World) (text : List ℕ) (filled : ℕ) (out : List ℕ)
