@@ -1,4 +1,5 @@
 // What byte and word cycles move, on a memory of any length, and what answers them.
+#![tactic(auto)]
 
 // What a cycle event moved: the datum, and how many bus cycles that took. Where nothing was moved both are 0.
 #[derive(Drop)]

@@ -1,4 +1,6 @@
 // The text programs: they read their input, hand the session what came, and write what is wanted, answers, pictures or outcomes, to standard output.
+#![tactic(auto)]
+
 ghost use Rattle.std.specs.Prelude.{◌<◌, ◌≡◌, take};
 
 use feeding::{feed, finish, fresh, has_room};
