@@ -8,7 +8,7 @@ use libc::STDOUT_FILENO;
 use session::{Fed, Session, Stage};
 
 // A turn's end.
-#[derive(Drop)]
+#[derive(Clone, Copy)]
 struct Turn {
     // There is more to come: nothing failed, and the end was not yet told.
     goes_on: bool,
@@ -19,7 +19,7 @@ struct Turn {
 }
 
 // What is in the text before a call.
-#[derive(Drop)]
+#[derive(Clone, Copy)]
 struct Filled {
     failed: bool,
     ended: bool,
