@@ -15,7 +15,7 @@ use Rattle.words.proofs.BelowLaws.{all_at, same_below, same_tests_below}
 use Rattle.lines.proofs.LevelLaws.{lines_in_range}
 use Rattle.phases.specs.Phase as Phase
 use Rattle.phases.specs.Kind as Kind
-use Rattle.phases.specs.Signal.{sXTRQ, signals_in}
+use Rattle.phases.specs.Signal.{signals_in}
 use Rattle.phases.specs.Status.{status_of}
 use Rattle.phases.specs.Control.{is_reading, is_writing}
 use Rattle.bus.specs.State.{arbitration_of, lines_of}
