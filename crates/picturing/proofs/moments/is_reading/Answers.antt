@@ -3,12 +3,8 @@ use lib.Dec.{eqb}
 use Rattle.words.specs.Among.{is_among}
 use Rattle.phases.specs.Kind as Kind
 use Rattle.picturing.proofs.KindLaws.{four_asked}
-use Rattle.picturing.proofs.moments.is_reading.Statement.{statement}
-use Rattle.picturing.proofs.moments.is_reading.Tie as tie
+use Rattle.picturing.proofs.moments.is_reading.Goals as goal
 
-returns : tie.Need-returns
+pub returns : goal.returns
 unfolding is_among
 returns c = let kind = c.args.kind in four_asked (eqb kind Kind.byte_read) (eqb kind Kind.opcode_fetch) (eqb kind Kind.word_read) (eqb kind Kind.input)
-
-pub is_reading_spec : {M : Type 1} → statement M
-is_reading_spec = tie.close (tie.spec returns)
