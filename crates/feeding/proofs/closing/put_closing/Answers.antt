@@ -1,0 +1,19 @@
+-- By what is wanted.
+use mathlib.Core.Path.{refl}
+use lib.ListN.{length}
+use Rattle.session.specs.World.{wanted_by}
+use Rattle.session.specs.declared.state.Wanted.TheVariants.{Outcomes}
+use Rattle.feeding.proofs.ClosingLaws.{closing_found}
+use Rattle.feeding.proofs.SayingLaws.{wants_outcomes_holds, no_closing}
+use Rattle.feeding.proofs.closing.put_closing.Goals as goal
+
+pub returns-then-wanted-eq-WANTS_OUTCOMES : goal.returns-then-wanted-eq-WANTS_OUTCOMES
+returns-then-wanted-eq-WANTS_OUTCOMES c =
+    let from = c.args in
+    closing_found (wanted_by from.wanted) Outcomes (wants_outcomes_holds from.wanted c.if-wanted-eq-WANTS_OUTCOMES.true) from.session from.rest.now _ _
+    record { put = c.put_left.ensures.put; left = c.put_left.ensures.left }
+
+pub returns-else-wanted-eq-WANTS_OUTCOMES : goal.returns-else-wanted-eq-WANTS_OUTCOMES
+returns-else-wanted-eq-WANTS_OUTCOMES c =
+    let from = c.args in
+    rw (no_closing from.wanted c.if-wanted-eq-WANTS_OUTCOMES.false (length from.rest.now) from.session) record { put = refl; left = refl }
