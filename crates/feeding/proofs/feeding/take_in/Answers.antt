@@ -1,31 +1,24 @@
 -- Lines are taken, and the rest is held.
 -- ---- Places
 use mathlib.Core.Path.{sym}
-use borrow.Author.Rules.{rules}
 use lib.Seq.{length-take-le}
 use Rattle.session.specs.Feeding.{world_of}
 use Rattle.session.specs.World.{wanted_by, World}
 use Rattle.session.proofs.FeedLaws.{used_within, fed_taken}
 use Rattle.feeding.proofs.feeding.take_in.Goals as goal
-use Rattle.feeding.proofs.feeding.take_in.Goals.{After-take_lines-taken}
-
-abbrev given : After-take_lines-taken → World
-given c = let from = c.args in world_of from.session from.memory.now from.ports.now
 
 pub slice_bounds-take_lines-end-2 : goal.slice_bounds-take_lines-end-2
 slice_bounds-take_lines-end-2 c =
-    sym (length-take-le c.args.filled c.args.text.now c.requires.0)
-
-pub take_lines-taken-requires : goal.take_lines-taken-requires
-take_lines-taken-requires c =
-    let hands = search rules in
-    record { ports_value = hands.0; bus_value = hands.1 }
+    sym (length-take-le c.args.filled c.args.text.now c.requires.filled_in_bounds)
 
 pub hold-held-requires : goal.hold-held-requires
 hold-held-requires c =
     let given : World = let from = c.args in world_of from.session from.memory.now from.ports.now in
-    record { from_le_filled = used_within (wanted_by c.args.wanted) given c.args.text.now c.args.out.now c.args.filled c.take_lines-taken.result
-          c.pre.0 c.take_lines-taken.ensures.taken; filled_in_bounds = c.pre.0 }
+    record {
+      from_le_filled = used_within (wanted_by c.args.wanted) given c.args.text.now c.args.out.now c.args.filled c.take_lines-taken.result
+          c.requires.filled_in_bounds c.take_lines-taken.ensures.taken;
+      filled_in_bounds = c.requires.filled_in_bounds;
+    }
 
 pub returns : goal.returns
 returns c =

@@ -1,7 +1,7 @@
 -- The bytes brought down are those from the place on; those still to come are as they were.
 use mathlib.Core.Path.{◌≡◌, refl, ap, ◌∙◌}
 use mathlib.Core.List.{List}
-use Prim.Native.Nat.{ℕ, ◌+◌, ◌-◌}
+use Prim.Native.Nat.{ℕ, ◌+◌}
 use native.Mathlib.Omega.{arith}
 use lib.ListN.{get_or, drop, set, length-set}
 use lib.Seq.{paste}
@@ -23,8 +23,8 @@ loop-i-preserved c =
     let at = c.loop-i in (
       omega arith,
       (
-        length-set at.text at.i _ ∙ at.inv.1.0,
-        ap (λ (l : List ℕ). set l at.i (get_or l (given.from + at.i) 0)) at.inv.1.1
+        length-set at.text at.i _ ∙ at.invariant.1.0,
+        ap (λ (l : List ℕ). set l at.i (get_or l (given.from + at.i) 0)) at.invariant.1.1
             ∙ brought_next given.text.now given.from at.i (omega (arith, c.requires)),
       ),
     )

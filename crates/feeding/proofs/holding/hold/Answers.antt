@@ -11,8 +11,8 @@ bring_down-requires c =
     let size = c.args.filled - c.args.from in
     omega (
       arith,
-      c.pre.0,
-      c.requires,
+      c.requires.from_le_filled,
+      c.requires.filled_in_bounds,
       c.held_count-count.ensures,
       held_within (take size behind),
       length-take size behind,
@@ -21,6 +21,6 @@ bring_down-requires c =
 
 pub returns : goal.returns
 returns c =
-    let hands = held_home c.args.text.now c.args.from c.args.filled c.held_count-count.result c.pre.0 c.requires
-    c.held_count-count.ensures c.bring_down.new.0 c.bring_down.ensures in
+    let hands = held_home c.args.text.now c.args.from c.args.filled c.held_count-count.result c.requires.from_le_filled c.requires.filled_in_bounds
+    c.held_count-count.ensures c.bring_down.new.text c.bring_down.ensures in
     record { held = hands.0; left = hands.1 }

@@ -1,15 +1,8 @@
 -- By the stage.
--- ---- Places
-use borrow.Author.Rules.{rules}
 use Rattle.session.specs.World.{wanted_by}
 use Rattle.session.specs.declared.state.Stage.TheVariants.{Awaiting, Running, Ended}
 use Rattle.session.proofs.LineLaws.{at_stage, awaiting_keeps, ended_keeps, ended_silent}
 use Rattle.feeding.proofs.taking.take_line.Goals as goal
-
-pub take_event-requires : goal.take_event-requires
-take_event-requires c =
-    let hands = search rules in
-    record { wanted_in_bounds = hands.0; ports_value = hands.1.0; bus_value = hands.1.1 }
 
 pub returns-in-Awaiting : goal.returns-in-Awaiting
 returns-in-Awaiting c =
@@ -24,8 +17,10 @@ returns-in-Awaiting c =
 pub returns-in-Running : goal.returns-in-Running
 returns-in-Running c =
     let from = c.args in
-    at_stage (wanted_by from.wanted) from.stage Running from.bus from.memory.now from.ports.now from.rest.now from.out.now _ _ _ _
-    c.in-Running.is record { taken = c.take_event.ensures.taken; out_left = c.take_event.ensures.out_left; memory_left = c.take_event.ensures.memory_left; ports_left = c.take_event.ensures.ports_left }
+    let hands = at_stage (wanted_by from.wanted) from.stage Running from.bus from.memory.now from.ports.now from.rest.now from.out.now _ _ _ _
+    c.in-Running.is
+    (c.take_event.ensures.taken, (c.take_event.ensures.out_left, (c.take_event.ensures.memory_left, c.take_event.ensures.ports_left))) in
+    record { taken = hands.0; out_left = hands.1.0; memory_left = hands.1.1.0; ports_left = hands.1.1.1 }
 
 pub returns-in-Ended : goal.returns-in-Ended
 returns-in-Ended c =

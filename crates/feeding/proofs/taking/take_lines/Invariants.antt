@@ -1,5 +1,4 @@
 -- What was done, with what the rest will do, is the whole.
-use Prim.Native.Nat.{◌-◌}
 use lib.ListN.{length}
 use Rattle.session.specs.World.{wanted_by, world}
 use Rattle.session.proofs.LoopLaws.{Turning}
