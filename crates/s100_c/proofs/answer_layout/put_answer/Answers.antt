@@ -17,9 +17,6 @@ bounds-bytes-6 c = simp length-set (omega (arith, c.requires))
 pub put_word-requires : goal.put_word-requires
 put_word-requires c = simp length-set (omega (arith, c.requires))
 
-pub shape_of-bytes : goal.shape_of-bytes
-shape_of-bytes c = c.put_word.auto.0 ∙ simp length-set
-
 pub returns : goal.returns
 returns c =
-    c.put_word.ensures ∙ answer_put c.args.bytes.now c.args.answer c.pre
+    c.put_word.ensures ∙ answer_put c.args.bytes.now c.args.answer c.requires

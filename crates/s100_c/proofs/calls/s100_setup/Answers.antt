@@ -14,39 +14,24 @@ use Rattle.bus.specs.declared.state.SetupAnswer.{SetupAnswer}
 use Rattle.s100_c.specs.Layout.{state_size, state_bytes}
 use Rattle.s100_c.proofs.CallLaws.{setup_fits_holds}
 use Rattle.s100_c.proofs.calls.s100_setup.Goals as goal
-use Rattle.s100_c.proofs.calls.s100_setup.Goals.{After-setup-set, Then-pages-state}
-
--- what setup is given
-abbrev givenIn : Then-pages-state → Chassis
-givenIn at = chassis at.args.fitted at.args.pages.now
-
-fits : (at : Then-pages-state) → (length at.args.pages.now ≡ 16) × (length at.args.state.now ≡ state_size)
-fits at = setup_fits_holds (givenIn at) at.args.state.now at.if-pages-state.true
-
-
-    let givenIn : Chassis = chassis at.args.fitted at.args.pages.now in
-    let fits : (length at.args.pages.now ≡ 16) × (length at.args.state.now ≡ state_size) = setup_fits_holds givenIn at.args.state.now at.if-pages-state.true in
-    -- setup by the chassis that was given
-set-up : (at : After-setup-set) → at.setup-set.result ≡ setup_of givenIn
-set-up at =
-    let given = at.args in
-    let pages = at.sixteen_at.ensures ∙ take_all 16 given.pages.now (omega (arith, fits.0)) in
-    at.setup-set.ensures ∙ ap (λ (l : List ℕ). setup_of (chassis given.fitted l)) pages
 
 pub sixteen_at-requires : goal.sixteen_at-requires
-sixteen_at-requires c = omega (arith, (fits c).0)
+sixteen_at-requires c =
+    let givenIn : Chassis = chassis c.args.fitted c.args.pages.now in
+    let fits : (length c.args.pages.now ≡ 16) × (length c.args.state.now ≡ state_size) = setup_fits_holds givenIn c.args.state.now c.if-pages-state.true in
+    omega (arith, fits.0)
 
 pub put_bus-requires : goal.put_bus-requires
 put_bus-requires c =
     let givenIn : Chassis = chassis c.args.fitted c.args.pages.now in
-    let fits : (length at.args.pages.now ≡ 16) × (length at.args.state.now ≡ state_size) = setup_fits_holds givenIn c.args.state.now c.if-pages-state.true in
+    let fits : (length c.args.pages.now ≡ 16) × (length c.args.state.now ≡ state_size) = setup_fits_holds givenIn c.args.state.now c.if-pages-state.true in
     fits.1
 
 pub returns-then-pages-state : goal.returns-then-pages-state
 returns-then-pages-state c =
     let givenIn : Chassis = chassis c.args.fitted c.args.pages.now in
-    let fits : (length at.args.pages.now ≡ 16) × (length at.args.state.now ≡ state_size) = setup_fits_holds givenIn c.args.state.now c.if-pages-state.true in
-    let set-up : c.setup-set.result ≡ setup_of (givenIn at) = let given = c.args in let pages = c.sixteen_at.ensures ∙ take_all 16 given.pages.now (omega (arith, fits.0)) in c.setup-set.ensures ∙ ap (λ (l : List ℕ). setup_of (chassis given.fitted l)) pages in
+    let fits : (length c.args.pages.now ≡ 16) × (length c.args.state.now ≡ state_size) = setup_fits_holds givenIn c.args.state.now c.if-pages-state.true in
+    let set-up : c.setup-set.result ≡ setup_of givenIn = let given = c.args in let pages = c.sixteen_at.ensures ∙ take_all 16 given.pages.now (omega (arith, fits.0)) in c.setup-set.ensures ∙ ap (λ (l : List ℕ). setup_of (chassis given.fitted l)) pages in
     let fit = c.if-pages-state.true in
     let same = set-up in record { answers = then_pick wrong_length fit (ap (λ (s : SetupAnswer). s.answer) same); leaves = then_pick c.args.state.now fit (
           c.put_bus.ensures ∙ ap (λ (s : SetupAnswer). state_bytes s.bus) same) }

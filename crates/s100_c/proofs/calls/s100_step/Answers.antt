@@ -6,28 +6,16 @@ use Rattle.judgement.specs.declared.event.Event.{Event}
 use Rattle.s100_c.specs.Calls.{Lent, lent, machine_in}
 use Rattle.s100_c.proofs.CallLaws.{places_fit_holds, all_fit, buffers_misfit, places_misfit, placed_answers, misplaced_answers, fitting_leaves, misfitting_leaves, first_answer, }
 use Rattle.s100_c.proofs.calls.s100_step.Goals as goal
-use Rattle.s100_c.proofs.calls.s100_step.Goals.{After-slice_known-4-1}
 
--- what is lent, and the event
-abbrev lentIn : After-slice_known-4-1 → Lent
-lentIn at =
-    let a = at.args in lent a.state-1.now a.memory-1.now a.ports-1.now a.answer-1.now
-
-abbrev eventGiven : After-slice_known-4-1 → Event
-eventGiven at = let a = at.args in event_of a.kind a.speaker a.address a.datum
-
-take-step-requires : tie.Need-take-step-requires
-take-step-requires c κs =
-    let then = c.before.before.before.before.before in places_fit_holds (lentIn then.before) then.if1.true
 pub take_step-requires : goal.take_step-requires
 take_step-requires c =
-    let lentIn : Lent = let a = c.args in lent a.state-1.now a.memory-1.now a.ports-1.now a.answer-1.now in
+    let lentIn : Lent = let a = c.args in lent a.state.now a.memory.now a.ports.now a.answer.now in
     let hands = places_fit_holds lentIn c.if-state-answer.true in
     record { state_len = hands.0; answer_len = hands.1 }
 
 pub returns-then-memory-ports : goal.returns-then-memory-ports
 returns-then-memory-ports c =
-    let lentIn : Lent = let a = c.args in lent a.state-1.now a.memory-1.now a.ports-1.now a.answer-1.now in
+    let lentIn : Lent = let a = c.args in lent a.state.now a.memory.now a.ports.now a.answer.now in
     let eventGiven : Event = let a = c.args in event_of a.kind a.speaker a.address a.datum in
     let given = lentIn in
     let event = eventGiven in
@@ -35,7 +23,7 @@ returns-then-memory-ports c =
 
 pub returns-else-memory-ports : goal.returns-else-memory-ports
 returns-else-memory-ports c =
-    let lentIn : Lent = let a = c.args in lent a.state-1.now a.memory-1.now a.ports-1.now a.answer-1.now in
+    let lentIn : Lent = let a = c.args in lent a.state.now a.memory.now a.ports.now a.answer.now in
     let eventGiven : Event = let a = c.args in event_of a.kind a.speaker a.address a.datum in
     let given = lentIn in
     let event = eventGiven in
@@ -43,7 +31,7 @@ returns-else-memory-ports c =
 
 pub returns-else-state-answer : goal.returns-else-state-answer
 returns-else-state-answer c =
-    let lentIn : Lent = let a = c.args in lent a.state-1.now a.memory-1.now a.ports-1.now a.answer-1.now in
+    let lentIn : Lent = let a = c.args in lent a.state.now a.memory.now a.ports.now a.answer.now in
     let eventGiven : Event = let a = c.args in event_of a.kind a.speaker a.address a.datum in
     let given = lentIn in
     let event = eventGiven in
