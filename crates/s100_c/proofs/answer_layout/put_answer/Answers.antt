@@ -18,5 +18,4 @@ pub put_word-requires : goal.put_word-requires
 put_word-requires c = simp length-set (omega (arith, c.requires))
 
 pub returns : goal.returns
-returns c =
-    c.put_word.ensures ∙ answer_put c.args.bytes.now c.args.answer c.requires
+returns c = c.put_word.ensures ∙ answer_put c.args.bytes.now c.args.answer c.requires

@@ -12,10 +12,16 @@ use Rattle.s100_c.proofs.calls.s100_settle.Goals as goal
 
 pub returns-then-state-eq-STATE_SIZE : goal.returns-then-state-eq-STATE_SIZE
 returns-then-state-eq-STATE_SIZE c =
-    let settled : c.settle-settled.result ≡ settle_of (bus_in c.args.state.now) c.args.cards.now = c.settle-settled.ensures ∙ ap (λ (b : Bus). settle_of b c.args.cards.now) c.bus_in.ensures in
     let given = c.args in
     let fits = eq-eqb (length given.state.now) state_size c.if-state-eq-STATE_SIZE.true in
-    let same = settled in record { answers = then_pick wrong_length fits (ap (λ (s : Settlement). s.answer) same); leaves = then_pick given.state.now fits (c.put_bus.ensures ∙ ap (λ (s : Settlement). state_bytes s.bus) same); counts = then_pick given.looks.now fits (ap (λ (s : Settlement). s.looks) same) }
+    -- the settlement of the state that was lent
+    let same : c.settle-settled.result ≡ settle_of (bus_in given.state.now) given.cards.now =
+        c.settle-settled.ensures ∙ ap (λ (b : Bus). settle_of b given.cards.now) c.bus_in.ensures in
+    record {
+      answers = then_pick wrong_length fits (ap (λ (s : Settlement). s.answer) same);
+      leaves = then_pick given.state.now fits (c.put_bus.ensures ∙ ap (λ (s : Settlement). state_bytes s.bus) same);
+      counts = then_pick given.looks.now fits (ap (λ (s : Settlement). s.looks) same);
+    }
 
 pub returns-else-state-eq-STATE_SIZE : goal.returns-else-state-eq-STATE_SIZE
 returns-else-state-eq-STATE_SIZE c =

@@ -13,9 +13,7 @@ bounds-state-at c =
     omega (arith, fits.0, fits.1, c.requires)
 
 pub returns-then-state-n : goal.returns-then-state-n
-returns-then-state-n c =
-    then_pick no_field c.if-state-n.true c.wide.ensures
+returns-then-state-n c = then_pick no_field c.if-state-n.true c.wide.ensures
 
 pub returns-else-state-n : goal.returns-else-state-n
-returns-else-state-n c =
-    else_pick _ c.if-state-n.false refl
+returns-else-state-n c = else_pick _ c.if-state-n.false refl

@@ -4,5 +4,4 @@ use Rattle.s100_c.proofs.fields.s100_contenders.Goals as goal
 
 pub returns : goal.returns
 unfolding bus_in
-returns c =
-    c.word_field.ensures
+returns c = c.word_field.ensures

@@ -7,5 +7,4 @@ use Rattle.s100_c.proofs.fields.s100_page.Goals as goal
 
 pub returns : goal.returns
 unfolding bus_in
-returns c =
-    c.entry_field.ensures ∙ entry_there (state_at 1) c.args.state.now c.args.page
+returns c = c.entry_field.ensures ∙ entry_there (state_at 1) c.args.state.now c.args.page

@@ -4,5 +4,4 @@ use Rattle.s100_c.proofs.fields.s100_phase.Goals as goal
 
 pub returns : goal.returns
 unfolding bus_in
-returns c =
-    c.byte_field.ensures
+returns c = c.byte_field.ensures

@@ -14,7 +14,8 @@ loop-i-init c = (omega arith, refl)
 
 pub bounds-bytes-at : goal.bounds-bytes-at
 bounds-bytes-at c =
-    let long : length c.loop-i.bytes ≡ length c.args.bytes.now = let given = c.args in ap length c.loop-i.invariant.1 ∙ length-sets given.bytes.now given.at (take c.loop-i.i given.entries) in
+    let given = c.args in
+    let long = ap length c.loop-i.invariant.1 ∙ length-sets given.bytes.now given.at (take c.loop-i.i given.entries) in
     omega (arith, c.requires, long)
 
 pub loop-i-preserved : goal.loop-i-preserved
@@ -31,8 +32,7 @@ loop-i-preserved c =
 
 pub shape_of-bytes : goal.shape_of-bytes
 shape_of-bytes c =
-    let long : length c.loop-i.bytes ≡ length c.args.bytes.now = let given = c.args in ap length c.loop-i.invariant.1 ∙ length-sets given.bytes.now given.at (take c.loop-i.i given.entries) in
-    long
+    let given = c.args in ap length c.loop-i.invariant.1 ∙ length-sets given.bytes.now given.at (take c.loop-i.i given.entries)
 
 pub returns : goal.returns
 returns c =

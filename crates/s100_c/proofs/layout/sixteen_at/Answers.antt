@@ -8,12 +8,10 @@ use Rattle.s100_c.proofs.LayoutLaws.{entry_next}
 use Rattle.s100_c.proofs.layout.sixteen_at.Goals as goal
 
 pub loop-i-init : goal.loop-i-init
-loop-i-init c =
-    (omega arith, (refl, refl))
+loop-i-init c = (omega arith, (refl, refl))
 
 pub bounds-bytes-at : goal.bounds-bytes-at
-bounds-bytes-at c =
-    omega (arith, c.requires)
+bounds-bytes-at c = omega (arith, c.requires)
 
 pub loop-i-preserved : goal.loop-i-preserved
 loop-i-preserved c =

@@ -11,7 +11,7 @@ returns-then-seen-eq-SEEN_SIZE c =
     let place = c.args.seen.now in
     let long = c.if-seen-eq-SEEN_SIZE.true in
     let stored = sets_all place (seen_bytes c.picture_line-read.result) (sym long) in
-    rw (← c.picture_line-read.ensures, eq-eqb (length place) seen_size long) record { answers = refl; leaves = stored }
+    rw (← c.picture_line-read.ensures, eq-eqb (length place) seen_size long) (record { answers = refl; leaves = stored })
 
 pub returns-else-seen-eq-SEEN_SIZE : goal.returns-else-seen-eq-SEEN_SIZE
-returns-else-seen-eq-SEEN_SIZE c = rw (ne_eqb (length c.args.seen.now) seen_size c.if-seen-eq-SEEN_SIZE.false) record { answers = refl; leaves = refl }
+returns-else-seen-eq-SEEN_SIZE c = rw (ne_eqb (length c.args.seen.now) seen_size c.if-seen-eq-SEEN_SIZE.false) (record { answers = refl; leaves = refl })
