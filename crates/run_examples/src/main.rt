@@ -1,4 +1,6 @@
 // Runs the text program on every file of examples/, which its arguments name.
-fn main() {
-    run_files::run_files(session::WANTS_ANSWERS);
+#![tactic(auto)]
+
+fn main(rt: HostRuntime) {
+    run_files::run_files(&rt, session::WANTS_ANSWERS);
 }

@@ -1,4 +1,6 @@
 // The text program.
-fn main() {
-    program::run(session::WANTS_ANSWERS, libc::STDIN_FILENO);
+#![tactic(auto)]
+
+fn main(rt: HostRuntime) {
+    program::run(session::WANTS_ANSWERS, &mut rt.stdin(), &mut rt.stdout());
 }
