@@ -8,7 +8,7 @@ use session::{Fed, Session, Stage};
 use std::io::{Read, Write};
 
 // A turn's end.
-#[derive(Drop)]
+#[derive(Clone, Copy)]
 struct Turn {
     // There is more to come: nothing failed, and the end was not yet told.
     goes_on: bool,
@@ -26,7 +26,7 @@ struct Filled {
     size: usize,
 }
 
-// It has no result, and no contract can say what is read and written: the runs compare that.
+// It has no result, and no contract can say what a file or a terminal gives and takes: the runs compare that.
 pub fn run<R: Read, W: Write>(wanted: u8, input: &mut R, output: &mut W)
     ensures { result ≡ tt }
 {
@@ -62,7 +62,8 @@ fn take_turns<R: Read, W: Write>(
     let mut held: usize = 0;
     let mut reads = true;
     while 0 < left {
-        let filled = fill(input, &session.stage, text, held, reads);
+        let stage = session.stage;
+        let filled = fill(input, stage, text, held, reads);
         let turn = take_turn(wanted, session, filled, output, text, out, memory, ports);
         session = turn.session;
         held = turn.held;
@@ -91,11 +92,11 @@ fn take_turn<W: Write>(
 ) -> Turn {
     let fed = take_filled(wanted, session, filled, text, out, memory, ports);
     let is_written = write_front(output, out, fed.written);
-    let reads = has_room(wanted, out, fed.written);
+    let next = fed.session;
     Turn {
         goes_on: is_written & !filled.failed & !filled.ended,
-        reads: reads,
-        session: fed.session,
+        reads: has_room(wanted, out, fed.written),
+        session: next,
         held: fed.held,
     }
 }
@@ -117,7 +118,7 @@ fn take_filled(
     }
 }
 
-fn has_ended(stage: &Stage) -> bool {
+fn has_ended(stage: Stage) -> bool {
     match stage {
         Stage::Awaiting => false,
         Stage::Running => false,
@@ -126,7 +127,7 @@ fn has_ended(stage: &Stage) -> bool {
 }
 
 // A refused setup line ends the run: nothing more is read, as if the input ended there.
-fn fill<R: Read>(input: &mut R, stage: &Stage, text: &mut [u8], held: usize, reads: bool) -> Filled
+fn fill<R: Read>(input: &mut R, stage: Stage, text: &mut [u8], held: usize, reads: bool) -> Filled
     ensures { take held text.new ≡ take held text.old }
 {
     if has_ended(stage) {
