@@ -1,4 +1,6 @@
 // The bus as a value: its state, and what each method does to it.
+#![tactic(auto)]
+
 pub mod numbers;
 mod priority;
 mod settle;

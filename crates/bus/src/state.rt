@@ -3,7 +3,7 @@ ghost use Rattle.std.specs.Prelude.{◌≡◌};
 ghost use Rattle.bus.specs.State.{chassis_of};
 
 // What setup is given. No event changes it.
-#[derive(Drop)]
+#[derive(Clone, Copy)]
 pub struct Chassis {
     // The fitted cards: bit n for card n.
     pub fitted: u16,
@@ -18,7 +18,7 @@ pub const EMPTY_CHASSIS: Chassis = Chassis {
 };
 
 // The chassis' parts, and then what the events change. Methods take it by value and hand the next one back.
-#[derive(Drop)]
+#[derive(Clone, Copy)]
 pub struct Bus {
     pub fitted: u16,
     pub pages: [u8; 16],
@@ -44,7 +44,7 @@ impl Bus {
 }
 
 // What setup answers.
-#[derive(Drop)]
+#[derive(Clone, Copy)]
 pub struct SetupAnswer {
     pub answer: u8,
     pub bus: Bus,

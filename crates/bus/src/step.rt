@@ -4,7 +4,7 @@ ghost use Rattle.bus.specs.Step.{step_by};
 
 use crate::state::Bus;
 
-#[derive(Drop)]
+#[derive(Clone, Copy)]
 pub enum Step {
     Request,
     Look,

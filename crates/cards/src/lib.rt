@@ -1,4 +1,6 @@
 // Sets of cards, and one card at the priority lines. The state of the bus is no part of it.
+#![tactic(auto)]
+
 ghost use Rattle.std.specs.Prelude.{◌≡◌, cond, not, ◌||◌, eqb};
 ghost use Rattle.lines.specs.Look.{look};
 ghost use Rattle.cards.specs.Cards.{card_in, some_card, is_within};

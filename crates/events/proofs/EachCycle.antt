@@ -29,7 +29,7 @@ use Rattle.judgement.proofs.TableLaws.{CycleRow, cycle_row}
 use Rattle.judgement.specs.declared.event.Event.{Event}
 use Rattle.events.specs.Machine.{Machine}
 use Rattle.events.specs.Cycles.{slave_at, byte_of}
-use Rattle.events.specs.Answers.{wordSignals}
+use Rattle.events.specs.Answers.{word_signals}
 use Rattle.events.specs.Promises.{SpeakerDrives, AcceptedAs, ByteReadDoes, OpcodeFetchDoes, ByteWriteDoes, InputDoes, OutputDoes}
 use Rattle.events.specs.Promises.{Moves, code_there, ByItsPage, word_in, WordReadDoes, WordWriteDoes}
 use Rattle.events.proofs.TakenLaws.{right_buffers, in_sense, has_passed, is_formed, phase_allows, speaker_has_turn, does}
@@ -80,19 +80,19 @@ module _ (k : ℕ) (m : Machine) (event : Event) (ok : AcceptedAs k m event) whe
 -- ---- Bytes
 
 pub byte_read_does : ByteReadDoes
-unfolding is_among beside wordSignals status_of
+unfolding is_among beside word_signals status_of
 byte_read_does m event ok =
     does m event ok.1 Kind.byte_read ok.0 m.bus refl m.memory m.ports (rw ok.0) (rw ok.0) _
     (rw ok.0 (byte_moves m.memory event.address (in_memory Kind.byte_read m event ok refl)).0)
 
 pub opcode_fetch_does : OpcodeFetchDoes
-unfolding is_among beside wordSignals status_of
+unfolding is_among beside word_signals status_of
 opcode_fetch_does m event ok =
     does m event ok.1 Kind.opcode_fetch ok.0 m.bus refl m.memory m.ports (rw ok.0) (rw ok.0) _
     (rw ok.0 (byte_moves m.memory event.address (in_memory Kind.opcode_fetch m event ok refl)).0)
 
 pub byte_write_does : ByteWriteDoes
-unfolding is_among beside wordSignals status_of
+unfolding is_among beside word_signals status_of
 byte_write_does m event ok =
     does m event ok.1 Kind.byte_write ok.0 m.bus refl (set m.memory event.address event.datum) m.ports
     (rw ok.0 (ap (set m.memory event.address) byte))
@@ -106,13 +106,13 @@ byte_write_does m event ok =
 -- ---- Ports
 
 pub input_does : InputDoes
-unfolding is_among beside wordSignals status_of
+unfolding is_among beside word_signals status_of
 input_does m event ok =
     does m event ok.1 Kind.input ok.0 m.bus refl m.memory m.ports (rw ok.0) (rw ok.0) _
     (rw ok.0 (byte_moves m.ports event.address (in_ports Kind.input m event ok refl)).0)
 
 pub output_does : OutputDoes
-unfolding is_among beside wordSignals status_of
+unfolding is_among beside word_signals status_of
 output_does m event ok =
     does m event ok.1 Kind.output ok.0 m.bus refl m.memory (set m.ports event.address event.datum)
     (rw ok.0)
@@ -144,7 +144,7 @@ by_its_page k m event ok mem does found = go (ℕ_discrete (code_there m event) 
     go (no other) = let eight : code_there m event ≡ 1 = omega (arith, present, known, other) in inl (eight, by_code 1 eight)
 
 pub word_read_does : WordReadDoes
-unfolding is_among beside wordSignals status_of
+unfolding is_among beside word_signals status_of
 word_read_does m event ok =
     by_its_page Kind.word_read m event ok refl (λ signals cycles. Moves m event m.memory m.ports signals sMEMR (word_in cycles datum))
     (does m event ok.1 Kind.word_read ok.0 m.bus refl m.memory m.ports (rw ok.0) (rw ok.0) (in_word_cycles there datum)
@@ -157,7 +157,7 @@ word_read_does m event ok =
     there = slave_at m.bus.pages event.address
 
 pub word_write_does : WordWriteDoes
-unfolding is_among beside wordSignals status_of
+unfolding is_among beside word_signals status_of
 word_write_does m event ok =
     by_its_page Kind.word_write m event ok refl (λ signals cycles. Moves m event left m.ports signals sWO (word_in cycles event.datum))
     (does m event ok.1 Kind.word_write ok.0 m.bus refl left m.ports

@@ -26,7 +26,7 @@ use Rattle.judgement.specs.Refusals.{names_unfitted}
 use Rattle.judgement.specs.declared.event.Event.{Event}
 use Rattle.events.specs.Machine.{Machine, machine}
 use Rattle.events.specs.Cycles.{slave_at}
-use Rattle.events.specs.Answers.{signalsWith, wordSignals}
+use Rattle.events.specs.Answers.{signals_with, word_signals}
 use Rattle.events.specs.Step.{bus_by}
 use Rattle.events.specs.Promises.{
   Does,
@@ -46,7 +46,7 @@ use Rattle.events.proofs.TakenLaws.{in_sense, has_passed, phase_allows, speaker_
 
 -- from the bus that its step makes
 steps : (k : ℕ) (m : Machine) (event : Event) → AcceptedAs k m event → is_cycle k ≡ false → (bus : Bus) → bus_by (row_of k).step m.bus event ≡ bus
-    → (signals : ℕ) → ((s : Slave) → signalsWith bus.phase k s ≡ signals) → status_of k ≡ 0 → Steps m event bus signals (drivers_in bus.phase)
+    → (signals : ℕ) → ((s : Slave) → signals_with bus.phase k s ≡ signals) → status_of k ≡ 0 → Steps m event bus signals (drivers_in bus.phase)
 steps k m event ok other bus step signals shown quiet = record {
   does = as_stated;
   drives = ap (λ (x : Machine). drivers_in x.bus.phase) as_stated.leaves;
@@ -62,7 +62,7 @@ steps k m event ok other bus step signals shown quiet = record {
     as_stated =
         let same = no_cycle there event m.memory m.ports (ap is_cycle ok.0 ∙ other) in
         subst (λ (s : ℕ). Does m event left s 0 nothing) (shown there)
-        (subst (λ (s : ℕ). Does m event left (signalsWith bus.phase k there) s nothing) quiet
+        (subst (λ (s : ℕ). Does m event left (signals_with bus.phase k there) s nothing) quiet
         (does m event ok.1 k ok.0 bus step m.memory m.ports (sym same.1.0) (sym same.1.1) nothing (sym same.0)))
 
 both : {a b : Bool} → a ≡ true → b ≡ true → (a && b) ≡ true
@@ -71,7 +71,7 @@ both {a} {b} e f = (and-eq-true_iff a b).1 (e, f)
 -- ---- Asking for the bus
 
 pub request_does : RequestDoes
-unfolding is_among beside signals_in drivers_in wordSignals status_of
+unfolding is_among beside signals_in drivers_in word_signals status_of
 request_does m event ok =
     steps Kind.request m event ok refl (changed m.bus Phase.arbitration event.datum silent nobody) step HOLD (λ s. refl) refl
   where
@@ -104,7 +104,7 @@ module _ (m : Machine) (event : Event) (k : ℕ) (ok : AcceptedAs k m event) whe
   nobody_yet at = (in_sense m event ok.1).grant.nobody_elsewhere (λ low high. omega (arith, at, low))
 
 pub look_does : LookDoes
-unfolding looked is_among beside signals_in drivers_in wordSignals status_of
+unfolding looked is_among beside signals_in drivers_in word_signals status_of
 look_does m event ok = steps Kind.look m event ok refl after_look_holds step HOLD (λ s. refl) refl
   where
     after_look_holds : Bus
@@ -120,7 +120,7 @@ look_does m event ok = steps Kind.look m event ok refl after_look_holds step HOL
         rw (may, at, nobody_yet m event Kind.look ok at)
 
 pub acknowledge_does : AcknowledgeDoes
-unfolding is_among beside signals_in drivers_in wordSignals status_of
+unfolding is_among beside signals_in drivers_in word_signals status_of
 acknowledge_does m event ok =
     steps Kind.acknowledge m event ok refl (changed m.bus Phase.granted 0 silent (lines_of m.bus)) step (HOLD + pHLDA) (λ s. refl) refl
   where
@@ -150,7 +150,7 @@ transfer_step : (bus : Bus) (from to card : ℕ) → may_transfer bus from card 
 transfer_step bus from to card may = rw may
 
 pub begin_transfer_one_does : BeginTransferOneDoes
-unfolding is_among beside signals_in drivers_in wordSignals status_of
+unfolding is_among beside signals_in drivers_in word_signals status_of
 begin_transfer_one_does m event ok =
     steps Kind.begin_transfer_one m event ok refl _
     (transfer_step m.bus Phase.granted Phase.transfer_one event.speaker (may_transfer_holds m event Kind.begin_transfer_one Phase.granted ok refl refl))
@@ -159,7 +159,7 @@ begin_transfer_one_does m event ok =
     refl
 
 pub take_bus_does : TakeBusDoes
-unfolding is_among beside signals_in drivers_in wordSignals status_of
+unfolding is_among beside signals_in drivers_in word_signals status_of
 take_bus_does m event ok =
     steps Kind.take_bus m event ok refl _
     (transfer_step m.bus Phase.transfer_one Phase.owned event.speaker (may_transfer_holds m event Kind.take_bus Phase.transfer_one ok refl refl))
@@ -168,7 +168,7 @@ take_bus_does m event ok =
     refl
 
 pub begin_transfer_two_does : BeginTransferTwoDoes
-unfolding is_among beside signals_in drivers_in wordSignals status_of
+unfolding is_among beside signals_in drivers_in word_signals status_of
 begin_transfer_two_does m event ok =
     steps Kind.begin_transfer_two m event ok refl _
     (transfer_step m.bus Phase.owned Phase.transfer_two event.speaker (may_transfer_holds m event Kind.begin_transfer_two Phase.owned ok refl refl))
@@ -177,7 +177,7 @@ begin_transfer_two_does m event ok =
     refl
 
 pub give_back_does : GiveBackDoes
-unfolding is_among beside signals_in drivers_in wordSignals status_of
+unfolding is_among beside signals_in drivers_in word_signals status_of
 give_back_does m event ok =
     steps Kind.give_back m event ok refl (changed m.bus Phase.free m.bus.contenders m.bus.driven nobody) step 0 (λ s. refl) refl
   where
@@ -187,5 +187,5 @@ give_back_does m event ok =
         rw may
 
 pub reset_does : ResetDoes
-unfolding is_among beside signals_in drivers_in wordSignals status_of
+unfolding is_among beside signals_in drivers_in word_signals status_of
 reset_does m event ok = steps Kind.reset m event ok refl (changed m.bus Phase.free 0 silent nobody) refl 0 (λ s. refl) refl

@@ -27,7 +27,7 @@ use Rattle.judgement.specs.declared.event.Event.{Event}
 use Rattle.bus.specs.declared.step.Step.{Step}
 use Rattle.events.specs.Machine.{Machine}
 use Rattle.events.specs.Cycles.{cycle_moves, moved_by, memory_left}
-use Rattle.events.specs.Answers.{bare, answerWith}
+use Rattle.events.specs.Answers.{bare, answer_with}
 use Rattle.events.specs.Step.{taken_by, answer_by, refusal_in, after, answer_to, after_as, answer_as}
 use Rattle.events.specs.declared.answers.Answer.{Answer}
 use Rattle.events.specs.Promises.{with_page_at, SameOverEitherPage}
@@ -131,7 +131,7 @@ same_over_either_page m event word = record {
     kept false = refl
 
     shown : Bool → Machine → Answer
-    shown c x = cond c (bare refusal) (answerWith refusal x.bus (signals_in x.bus.phase) 0 nothing)
+    shown c x = cond c (bare refusal) (answer_with refusal x.bus (signals_in x.bus.phase) 0 nothing)
 
     moved : (b c : Bool) → (cond b (answer_by step eight event) (shown c eight)).datum ≡ (cond b (answer_by step sixteen event) (shown c sixteen)).datum
     moved true c = same_moved _ _ event m.memory m.ports

@@ -22,7 +22,7 @@ use Rattle.judgement.specs.declared.event.Event.{Event}
 use Rattle.judgement.proofs.Passed.{passed, accepted_call, sound_call}
 use Rattle.judgement.proofs.TableLaws.{each_kind_has_its_row}
 use Rattle.events.specs.Machine.{Machine}
-use Rattle.events.specs.Answers.{answerWith, bare, refusedWith}
+use Rattle.events.specs.Answers.{answer_with, bare, refused_with}
 use Rattle.events.specs.Step.{answer_by, refusal_in, after, answer_to, sound_after, sound_answer}
 use Rattle.events.specs.Promises.{RefusedKeeps, only_number, RefusedAnswers, RefusedByNumber, AcceptedByNone}
 use Rattle.events.specs.Promises.{AcceptedIsWellFormed, SoundStepIsTheStep, RequestInTransferTwo, RequestTooEarly}
@@ -33,7 +33,7 @@ unfolding after
 refused_keeps m event other = rw (ne_eqb (refusal_in m event) 0 other)
 
 -- the answer with any refusal that isn't 0
-answer_refused : (m : Machine) (event : Event) (n : ℕ) → refusal_in m event ≡ n → (n ≡ 0 → ⊥) → answer_to m event ≡ refusedWith n m.bus
+answer_refused : (m : Machine) (event : Event) (n : ℕ) → refusal_in m event ≡ n → (n ≡ 0 → ⊥) → answer_to m event ≡ refused_with n m.bus
 unfolding answer_to
 answer_refused m event n e other = rw (e, ne_eqb n 0 other)
 
@@ -44,7 +44,7 @@ refused_answers m event n given = (alone, shown)
     alone (inl e) = answer_refused m event n given (λ z. omega (arith, z, e)) ∙ rw e
     alone (inr e) = answer_refused m event n given (λ z. omega (arith, z, e)) ∙ rw e
 
-    shown : Refusal.malformed ≤ n → answer_to m event ≡ answerWith n m.bus (signals_in m.bus.phase) 0 nothing
+    shown : Refusal.malformed ≤ n → answer_to m event ≡ answer_with n m.bus (signals_in m.bus.phase) 0 nothing
     shown h = answer_refused m event n given (λ z. omega (arith, z, h)) ∙ rw (lt-leb n Refusal.senseless h)
 
 -- n applies, and nothing lower
@@ -60,7 +60,7 @@ answers_refusal m event = go (eqb (refusal_in m event) 0) refl (leb (refusal_in 
   where
     go : (a : Bool) → eqb (refusal_in m event) 0 ≡ a → (b : Bool)
         → (cond a (answer_by (row_of event.kind).step m event)
-        (cond b (bare (refusal_in m event)) (answerWith (refusal_in m event) m.bus (signals_in m.bus.phase) 0 nothing))).refusal ≡ refusal_in m event
+        (cond b (bare (refusal_in m event)) (answer_with (refusal_in m event) m.bus (signals_in m.bus.phase) 0 nothing))).refusal ≡ refusal_in m event
     go true e b = sym (eqb-true _ _ e)
     go false e true = refl
     go false e false = refl

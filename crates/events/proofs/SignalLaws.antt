@@ -8,10 +8,10 @@ use Rattle.phases.specs.Signal.{signals_in}
 use Rattle.phases.proofs.OnTheLines.{signals_most}
 use Rattle.memory.specs.declared.Slave.{Slave}
 use Rattle.memory.specs.Slave.{asserts_sixtn}
-use Rattle.events.specs.Answers.{wordSignals}
+use Rattle.events.specs.Answers.{word_signals}
 
-pub signals_fit : (phase kind : ℕ) (s : Slave) → signals_in phase + wordSignals kind s < 256
-unfolding wordSignals
+pub signals_fit : (phase kind : ℕ) (s : Slave) → signals_in phase + word_signals kind s < 256
+unfolding word_signals
 signals_fit phase kind s = omega (arith, signals_most phase, word (Kind.is_word kind) (asserts_sixtn s))
   where
     word : (b s : Bool) → cond b (0x80 + cond s 0x40 0) 0 ≤ 0xC0

@@ -15,7 +15,7 @@ use Rattle.judgement.specs.declared.event.Event.{Event}
 use Rattle.judgement.specs.declared.verdict.Verdict.TheVariants.{Refused, Takes}
 use Rattle.judgement.proofs.Passed.{refused_says, taken_says, sound_call}
 use Rattle.events.specs.Machine.{Machine}
-use Rattle.events.specs.Answers.{refusedWith}
+use Rattle.events.specs.Answers.{refused_with}
 use Rattle.events.specs.Step.{bus_by, taken_by, answer_by, stepped, after, answer_to, sound_after, sound_answer}
 use Rattle.events.specs.declared.answers.Answer.{Answer}
 use Rattle.events.specs.declared.answers.Stepped.{Stepped}
@@ -38,7 +38,7 @@ module _ (m : Machine) (event : Event) where
       rw says.0 (r ∙ ap (λ (s : Step). stepped (bus_by s m.bus event) (answer_by s m event)) says.1, (mm, pp))
 
   pub sound_refused : (number : ℕ) → Refused number ≡ sound_verdict m.bus event
-      → (result : Stepped) → result ≡ stepped m.bus (refusedWith number m.bus)
+      → (result : Stepped) → result ≡ stepped m.bus (refused_with number m.bus)
       → Hands m event sound_after sound_answer result m.memory m.ports
   unfolding sound_after sound_answer
   sound_refused number v result r =
@@ -55,13 +55,13 @@ module _ (m : Machine) (event : Event) where
       rw (sound_call m.bus event m.memory m.ports (ap not lengths) (ap not sense)) hands
 
   pub call_senseless : (eqb (length m.memory) 0x10000 && eqb (length m.ports) 0x100) ≡ true → makes_sense m.bus ≡ false
-      → (result : Stepped) → result ≡ stepped m.bus (refusedWith Refusal.senseless m.bus)
+      → (result : Stepped) → result ≡ stepped m.bus (refused_with Refusal.senseless m.bus)
       → Hands m event after answer_to result m.memory m.ports
   unfolding after answer_to refusal_of first_of
   call_senseless lengths sense result r = rw (lengths, sense) (r, (refl, refl))
 
   pub call_misfit : (eqb (length m.memory) 0x10000 && eqb (length m.ports) 0x100) ≡ false
-      → (result : Stepped) → result ≡ stepped m.bus (refusedWith Refusal.wrong_buffers m.bus)
+      → (result : Stepped) → result ≡ stepped m.bus (refused_with Refusal.wrong_buffers m.bus)
       → Hands m event after answer_to result m.memory m.ports
   unfolding after answer_to refusal_of first_of
   call_misfit lengths result r = rw lengths (r, (refl, refl))

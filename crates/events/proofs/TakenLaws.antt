@@ -20,7 +20,7 @@ use Rattle.judgement.specs.declared.event.Event.{Event}
 use Rattle.judgement.proofs.Passed.{Passed, passed, accepted_call}
 use Rattle.events.specs.Machine.{Machine, machine}
 use Rattle.events.specs.Cycles.{slave_at, moved_by, memory_left, ports_left}
-use Rattle.events.specs.Answers.{answerWith, signalsWith}
+use Rattle.events.specs.Answers.{answer_with, signals_with}
 use Rattle.events.specs.Step.{bus_by, taken_by, answer_by, refusal_in, after, answer_to}
 use Rattle.events.specs.Promises.{Does}
 
@@ -77,14 +77,14 @@ module _ (m : Machine) (event : Event) (ok : refusal_in m event ≡ 0) where
   pub does : (k : ℕ) → event.kind ≡ k → (bus : Bus) → bus_by (row_of k).step m.bus event ≡ bus → (memory ports : List ℕ)
       → memory_left (slave_at m.bus.pages event.address) event m.memory ≡ memory → ports_left event m.ports ≡ ports → (moved : Moved)
       → moved_by (slave_at m.bus.pages event.address) event m.memory m.ports ≡ moved
-      → Does m event (machine bus memory ports) (signalsWith bus.phase k (slave_at m.bus.pages event.address)) (status_of k) moved
+      → Does m event (machine bus memory ports) (signals_with bus.phase k (slave_at m.bus.pages event.address)) (status_of k) moved
   does k e bus step memory ports kept left moved moves = record {
     leaves = leaves_taken ∙ parts steps kept left;
     answers =
         answers_taken
-        ∙ ap (λ (b : Bus). answerWith 0 b (signalsWith b.phase event.kind there) (status_of event.kind) moves_as) steps
-        ∙ ap (λ (q : ℕ). answerWith 0 bus (signalsWith bus.phase q there) (status_of q) moves_as) e
-        ∙ ap (answerWith 0 bus (signalsWith bus.phase k there) (status_of k)) moves;
+        ∙ ap (λ (b : Bus). answer_with 0 b (signals_with b.phase event.kind there) (status_of event.kind) moves_as) steps
+        ∙ ap (λ (q : ℕ). answer_with 0 bus (signals_with bus.phase q there) (status_of q) moves_as) e
+        ∙ ap (answer_with 0 bus (signals_with bus.phase k there) (status_of k)) moves;
   }
     where
       there : Slave

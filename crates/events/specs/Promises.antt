@@ -21,7 +21,7 @@ use Rattle.judgement.specs.Refusals.{has_wrong_buffers}
 use Rattle.judgement.specs.Judge.{reasons_against}
 use Rattle.judgement.specs.declared.event.Event.{Event}
 use Rattle.events.specs.Machine.{Machine, machine}
-use Rattle.events.specs.Answers.{answerWith}
+use Rattle.events.specs.Answers.{answer_with}
 use Rattle.events.specs.Step.{refusal_in, after, answer_to, sound_after, sound_answer}
 use Rattle.events.specs.declared.answers.Answer.{Answer}
 
@@ -40,7 +40,7 @@ abbrev pub RefusedAnswers : Type 0
 RefusedAnswers =
     (m : Machine) (event : Event) (n : ℕ) → refusal_in m event ≡ n
     → ((n ≡ Refusal.wrong_buffers) ⊎ (n ≡ Refusal.senseless) → answer_to m event ≡ only_number n)
-    × (Refusal.malformed ≤ n → answer_to m event ≡ answerWith n m.bus (signals_in m.bus.phase) 0 nothing)
+    × (Refusal.malformed ≤ n → answer_to m event ≡ answer_with n m.bus (signals_in m.bus.phase) 0 nothing)
 
 -- The number answered is n exactly where n is among the reasons and every smaller number is not,
 abbrev pub RefusedByNumber : Type 0
@@ -110,7 +110,7 @@ OtherBytesStay =
 -- it leaves this, and the answer shows what is left with these signals, this status, and what was moved
 pub record Does (m : Machine) (event : Event) (left : Machine) (signals status : ℕ) (moved : Moved) : Type 0 where
   pub leaves : after m event ≡ left
-  pub answers : answer_to m event ≡ answerWith Refusal.accepted left.bus signals status moved
+  pub answers : answer_to m event ≡ answer_with Refusal.accepted left.bus signals status moved
 
 -- A step that is no cycle leaves this bus and every byte, and its drivers are these.
 pub record Steps (m : Machine) (event : Event) (bus : Bus) (signals : ℕ) (drivers : List ℕ) : Type 0 where

@@ -10,7 +10,7 @@ use Rattle.judgement.specs.Judge.{sound_refusal, refusal_of}
 use Rattle.judgement.specs.declared.event.Event.{Event}
 use Rattle.events.specs.Machine.{Machine, machine}
 use Rattle.events.specs.Cycles.{slave_at, moved_by, memory_left, ports_left}
-use Rattle.events.specs.Answers.{answerWith, signalsWith, refusedWith}
+use Rattle.events.specs.Answers.{answer_with, signals_with, refused_with}
 use Rattle.events.specs.declared.answers.Answer.{Answer}
 use Rattle.events.specs.declared.answers.Stepped.{Stepped}
 
@@ -28,8 +28,8 @@ taken_by step m event =
 
 abbrev pub answer_by : Step → Machine → Event → Answer
 answer_by step m event =
-    answerWith Refusal.accepted (bus_by step m.bus event)
-    (signalsWith (bus_by step m.bus event).phase event.kind (slave_at m.bus.pages event.address))
+    answer_with Refusal.accepted (bus_by step m.bus event)
+    (signals_with (bus_by step m.bus event).phase event.kind (slave_at m.bus.pages event.address))
     (status_of event.kind)
     (moved_by (slave_at m.bus.pages event.address) event m.memory m.ports)
 
@@ -39,7 +39,7 @@ abbrev pub after_as : ℕ → Machine → Event → Machine
 after_as refusal m event = cond (eqb refusal Refusal.accepted) (taken_by (row_of event.kind).step m event) m
 
 abbrev pub answer_as : ℕ → Machine → Event → Answer
-answer_as refusal m event = cond (eqb refusal Refusal.accepted) (answer_by (row_of event.kind).step m event) (refusedWith refusal m.bus)
+answer_as refusal m event = cond (eqb refusal Refusal.accepted) (answer_by (row_of event.kind).step m event) (refused_with refusal m.bus)
 
 -- state and answer together, as a call hands them back
 abbrev pub stepped : Bus → Answer → Stepped

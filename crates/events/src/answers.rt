@@ -2,7 +2,7 @@
 use bus::Bus;
 
 // The parts of 01's answer line, in its order.
-#[derive(Drop)]
+#[derive(Clone, Copy)]
 pub struct Answer {
     // 0 where the event was accepted.
     pub refusal: u8,
@@ -16,7 +16,7 @@ pub struct Answer {
 }
 
 // The state after an event, and what is answered to it.
-#[derive(Drop)]
+#[derive(Clone, Copy)]
 pub struct Stepped {
     pub bus: Bus,
     pub answer: Answer,

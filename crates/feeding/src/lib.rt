@@ -1,4 +1,6 @@
 // A run of the program in calls, each with a piece of the text.
+#![tactic(auto)]
+
 mod closing;
 mod feeding;
 mod holding;

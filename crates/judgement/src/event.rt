@@ -3,7 +3,7 @@
 // The permanent master as a speaker.
 pub const PERMANENT_MASTER: u8 = 0x10;
 
-#[derive(Drop)]
+#[derive(Clone, Copy)]
 pub struct Event {
     pub kind: u8,
     // A card, or the permanent master.

@@ -1,4 +1,6 @@
 // The event, and the verdict on it: a refusal, or the step that it takes.
+#![tactic(auto)]
+
 mod event;
 mod verdict;
 

@@ -2,7 +2,7 @@
 use bus::Step;
 
 // A refusal by its number, or the step to take.
-#[derive(Drop)]
+#[derive(Clone, Copy)]
 pub enum Verdict {
     Refused(u8),
     Takes(Step),

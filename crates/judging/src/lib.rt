@@ -1,4 +1,6 @@
 // What is judged of an event before anything is done: its fields, its phase, its speaker, the lines and the address.
+#![tactic(auto)]
+
 mod columns;
 mod reasons;
 mod rules;

@@ -1,4 +1,6 @@
 // Byte and word cycles on a memory of any length: specs/Cycles of `memory` says what each moves and what it leaves.
+#![tactic(auto)]
+
 ghost use Rattle.std.specs.Prelude.{◌≡◌};
 ghost use Rattle.memory.specs.Slave.{eight_bit_page, sixteen_bit_page, slave, asserts_sixtn};
 ghost use Rattle.memory.specs.Cycles.{in_one_cycle, byte_read, byte_write, after_byte_write};

@@ -1,30 +1,26 @@
 -- Who wins, why the others lose, and that what they are told is true.
-use Prim.Native.Nat.{ℕ, ◌%◌, ◌^◌, ◌<◌, ◌≤◌}
+use Prim.Native.Nat.{ℕ, ◌%◌, ◌^◌, ◌<◌}
 use mathlib.Core.Path.{◌≡◌, refl, sym, ap, subst, ◌∙◌}
 use mathlib.Core.Logic.{◌⊎◌, inl, inr}
-use mathlib.Core.Bool.{Bool, true, false, cond, not, ◌&&◌, true≢false}
-use mathlib.Core.List.{List}
+use mathlib.Core.Bool.{Bool, true, false, true≢false}
 use native.Mathlib.Nat.{mod-eq_of_lt, le_of_suc-le-suc}
 use native.Mathlib.Decide.{dec_lt}
 use native.Mathlib.Omega.{arith}
 use lib.Dec.{eqb}
 use lib.ListN.{get_or}
-use borrow.Author.Tests.{eq-eqb, ne_eqb, eqb-true, eqb-false}
+use borrow.Author.Tests.{ne_eqb}
 use Rattle.words.specs.Bits.{bit_at}
-use Rattle.words.proofs.TestLaws.{true_or_false}
 use Rattle.lines.specs.Arbitration.{Contender, Highest}
-use Rattle.lines.proofs.FourLines.{four_highest_unique}
-use Rattle.cards.specs.Cards.{card_in}
 use Rattle.bus.specs.Refusal as Refusal
-use Rattle.bus.specs.State.{arbitration_of, lines_of, is_settled, nobody}
+use Rattle.bus.specs.State.{arbitration_of, lines_of}
 use Rattle.bus.specs.declared.state.Bus.{Bus}
 use Rattle.bus.proofs.SenseLaws.{sense_means}
 use Rattle.bus.proofs.Granting.{contender_of}
-use Rattle.runs.specs.Run.{call, refusal_on, bus_after}
-use Rattle.runs.specs.Promises.{right_acknowledge, Right}
+use Rattle.runs.specs.Run.{call, bus_after}
+use Rattle.runs.specs.Promises.{right_acknowledge}
 use Rattle.runs.proofs.DemandThree.{grants_next}
-use Rattle.outcome.specs.Losing.{no_line, line_lost, rival_at}
-use Rattle.outcome.specs.Outcomes.{outcome_refusal, loss, decided_at, settled_outcome, outcome_of, figures, figures_of, figures_for}
+use Rattle.outcome.specs.Losing.{no_line, line_lost}
+use Rattle.outcome.specs.Outcomes.{loss, decided_at, settled_outcome, outcome_of, figures_of}
 use Rattle.outcome.specs.Promises.{
   Asked,
   SettledArbitration,

@@ -1,9 +1,9 @@
 -- When the outcome is refused, and as what.
 use Prim.Native.Nat.{ℕ, ◌<◌, ◌≤◌}
-use mathlib.Core.Path.{◌≡◌, refl, sym, ap, ◌∙◌}
+use mathlib.Core.Path.{◌≡◌, refl, sym, ◌∙◌}
 use mathlib.Core.Logic.{◌⊎◌, inl, inr, ⊎_elim}
 use mathlib.Core.Bool.{Bool, true, false, cond, not, ◌&&◌, ◌||◌, and-eq-true_iff, true≢false}
-use mathlib.Core.List.{List, [], ◌∷◌}
+use mathlib.Core.List.{[], ◌∷◌}
 use native.Mathlib.Nat.{le_of_suc-le-suc}
 use native.Mathlib.Decide.{dec_lt}
 use native.Mathlib.Omega.{arith}
@@ -37,7 +37,7 @@ use Rattle.bus.specs.declared.state.Bus.{Bus}
 use Rattle.bus.proofs.SenseLaws.{sense_means}
 use Rattle.bus.proofs.Settled.{answers, list_in_order}
 use Rattle.outcome.specs.Losing.{no_line, line_lost}
-use Rattle.outcome.specs.Outcomes.{outcome_reasons, outcome_refusal, decided_at, settled_outcome, outcome_of, figures, figures_of, figures_for}
+use Rattle.outcome.specs.Outcomes.{outcome_reasons, outcome_refusal, decided_at, settled_outcome, outcome_of, figures_of, figures_for}
 use Rattle.outcome.specs.Promises.{Asked, OutcomeByNumber, OutcomeRefused, AnsweredIfAsked, RefusedAsInSettle, RefusedTellsNothing}
 use Rattle.outcome.specs.declared.figures.Outcome.TheVariants.{Refused}
 
@@ -292,11 +292,11 @@ same_reasons senseless elsewhere fits contends card behind = go (dec_lt 15 card)
     go (no low) = rw (le-ltb 15 card (omega arith), le-leb card 15 (omega arith))
 
 -- what stands behind the five counts where they don't apply
-behind_five : (senseless high unfitted elsewhere idle : Bool) (behind : ℕ)
-    → of_card senseless high unfitted elsewhere idle behind
-    ≡ cond (eqb (of_card senseless high unfitted elsewhere idle 0) 0) behind (of_card senseless high unfitted elsewhere idle 0)
-behind_five true high unfitted elsewhere idle behind = refl
-behind_five false true unfitted elsewhere idle behind = refl
+behind_five : (senseless high missing elsewhere idle : Bool) (behind : ℕ)
+    → of_card senseless high missing elsewhere idle behind
+    ≡ cond (eqb (of_card senseless high missing elsewhere idle 0) 0) behind (of_card senseless high missing elsewhere idle 0)
+behind_five true high missing elsewhere idle behind = refl
+behind_five false true missing elsewhere idle behind = refl
 behind_five false false true elsewhere idle behind = refl
 behind_five false false false true idle behind = refl
 behind_five false false false false true behind = refl

@@ -1,20 +1,19 @@
 -- Settled lines: the highest contender drives its whole number, and so it is the rival of every other.
-use Prim.Native.Nat.{ℕ, ◌^◌, ◌<◌, ◌≤◌}
-use mathlib.Core.Path.{◌≡◌, refl, sym, ap, ◌∙◌}
+use Prim.Native.Nat.{ℕ, ◌<◌}
+use mathlib.Core.Path.{◌≡◌, sym, ap, ◌∙◌}
 use mathlib.Core.Logic.{◌⊎◌, inl, inr}
-use mathlib.Core.Bool.{Bool, true, false, ◌&&◌, true≢false}
+use mathlib.Core.Bool.{true, false}
 use native.Mathlib.Nat.{mod-eq_of_lt}
-use native.Mathlib.Decide.{dec_lt}
 use native.Mathlib.Omega.{arith}
 use lib.ListN.{get_or}
 use Rattle.words.specs.Bits.{bit_at}
 use Rattle.words.proofs.TestLaws.{true_or_false, both_of}
 use Rattle.words.proofs.FirstLaws.{highest_is}
-use Rattle.lines.specs.Arbitration.{Contender, Highest, looked}
+use Rattle.lines.specs.Arbitration.{Highest, looked}
 use Rattle.lines.proofs.LookLaws.{look_own}
 use Rattle.lines.proofs.Settling.{settled_at}
 use Rattle.cards.specs.Cards.{card_in}
-use Rattle.bus.specs.State.{arbitration_of, lines_of, is_settled, nobody}
+use Rattle.bus.specs.State.{arbitration_of, lines_of, nobody}
 use Rattle.bus.specs.declared.state.Bus.{Bus}
 use Rattle.bus.proofs.Granting.{contender_of, settled_show_it}
 use Rattle.outcome.specs.Losing.{drives_line, rival_at}

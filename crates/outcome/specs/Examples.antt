@@ -1,5 +1,5 @@
 -- Small arbitrations: 4, 9 and 10 settled and not, a lone card, and each refusal where those behind it would apply too.
-use Rattle.std.specs.Prelude.{ℕ, ◌≡◌, List, [], ◌∷◌, ◌++◌, replicate}
+use Rattle.std.specs.Prelude.{◌≡◌, [], ◌∷◌, ◌++◌, replicate}
 use Rattle.phases.specs.Phase as Phase
 use Rattle.bus.specs.State.{chassis, free_bus, silent, state_of}
 use Rattle.bus.specs.Steps.{requested, after_looks_of, acknowledged}

@@ -1,5 +1,5 @@
 -- The outcome of an arbitration for one card: a refusal, that the card wins, or where it loses and to whom; and its numbers (02, CR 4).
-use Rattle.std.specs.Prelude.{ℕ, Bool, cond, not, ◌&&◌, List, [], ◌∷◌, eqb, leb, ltb}
+use Rattle.std.specs.Prelude.{ℕ, cond, not, ◌&&◌, List, [], ◌∷◌, eqb, leb, ltb}
 use Rattle.words.specs.First.{Reason, reason, first_of}
 use Rattle.cards.specs.Cards.{card_in}
 use Rattle.bus.specs.Refusal as Refusal

@@ -8,13 +8,13 @@ use bus::numbers::*;
 pub const NO_LINE: u8 = 0xFF;
 
 // The priority line at which a card loses, 3 for weight 8 to 0 for weight 1, and the card that it loses to.
-#[derive(Drop)]
+#[derive(Clone, Copy)]
 pub struct Loss {
     pub line: u8,
     pub rival: u8,
 }
 
-#[derive(Drop)]
+#[derive(Clone, Copy)]
 pub enum Outcome {
     // By the number of the refusal.
     Refused(u8),
@@ -23,7 +23,7 @@ pub enum Outcome {
 }
 
 // What is told of it: the answer's number, the card that was asked about, the line and the rival.
-#[derive(Drop)]
+#[derive(Clone, Copy)]
 pub struct Figures {
     pub answer: u8,
     pub card: u8,

@@ -1,4 +1,6 @@
 // What an arbitration means for one card: that it wins, or why it loses.
+#![tactic(auto)]
+
 mod asking;
 mod figures;
 

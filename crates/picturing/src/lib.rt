@@ -1,4 +1,6 @@
 // The lines of a picture, written.
+#![tactic(auto)]
+
 mod driven;
 mod levels;
 mod moments;

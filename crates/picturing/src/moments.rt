@@ -11,7 +11,7 @@ use pins::Moment;
 use tables::control;
 
 // The data lines of a moment: the bytes on them, and which are driven.
-#[derive(Drop)]
+#[derive(Clone, Copy)]
 pub struct DataLines {
     pub out: u8,
     pub into: u8,

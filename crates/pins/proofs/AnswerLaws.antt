@@ -15,7 +15,7 @@ use Rattle.words.proofs.BelowLaws.{all_at, same_below, same_tests_below}
 use Rattle.lines.proofs.LevelLaws.{lines_in_range}
 use Rattle.phases.specs.Phase as Phase
 use Rattle.phases.specs.Kind as Kind
-use Rattle.phases.specs.Signal.{sXTRQ, signals_in}
+use Rattle.phases.specs.Signal.{signals_in}
 use Rattle.phases.specs.Status.{status_of}
 use Rattle.phases.specs.Control.{is_reading, is_writing}
 use Rattle.bus.specs.State.{arbitration_of, lines_of}
@@ -27,7 +27,7 @@ use Rattle.judgement.specs.Refusals.{page_at}
 use Rattle.judgement.specs.declared.event.Event.{Event}
 use Rattle.judgement.proofs.TableLaws.{cycle_row, cycle_kinds}
 use Rattle.events.specs.Machine.{Machine}
-use Rattle.events.specs.Answers.{wordSignals}
+use Rattle.events.specs.Answers.{word_signals}
 use Rattle.events.specs.Cycles.{slave_at}
 use Rattle.events.specs.Step.{refusal_in, after, answer_to}
 use Rattle.events.specs.declared.answers.Answer.{Answer}
@@ -124,11 +124,11 @@ module _ (m : Machine) (event : Event) (ok : refusal_in m event ≡ 0) where
   status_is = ap (λ (b : Answer). b.status) (answers_taken m event ok)
 
   signals_are : (answer_to m event).signals
-      ≡ signals_in (answer_to m event).phase + wordSignals event.kind (slave_at m.bus.pages event.address)
+      ≡ signals_in (answer_to m event).phase + word_signals event.kind (slave_at m.bus.pages event.address)
   signals_are =
       let is = answers_taken m event ok in
       ap (λ (b : Answer). b.signals) is
-      ∙ sym (ap (λ (b : Answer). signals_in b.phase + wordSignals event.kind (slave_at m.bus.pages event.address)) is)
+      ∙ sym (ap (λ (b : Answer). signals_in b.phase + word_signals event.kind (slave_at m.bus.pages event.address)) is)
 
   -- a cycle comes in a phase that has them
   cycle_phase : is_cycle event.kind ≡ true → Phase.has_cycles (answer_to m event).phase ≡ true
@@ -150,7 +150,7 @@ module _ (m : Machine) (event : Event) (ok : refusal_in m event ≡ 0) where
       and_false false = refl
 
   -- so a moment of it fits, with what a word adds
-  pub fits_as : (w : ℕ) → Word w → wordSignals event.kind (slave_at m.bus.pages event.address) ≡ w
+  pub fits_as : (w : ℕ) → Word w → word_signals event.kind (slave_at m.bus.pages event.address) ≡ w
       → (address out into : ℕ) (doutDriven dinDriven : Bool)
       → Fits (moment_of event (answer_to m event) (answer_to m event).signals address out into doutDriven dinDriven) (answer_to m event).phase event.kind w
   fits_as w word is address out into doutDriven dinDriven = record {
@@ -165,7 +165,7 @@ module _ (m : Machine) (event : Event) (ok : refusal_in m event ≡ 0) where
   }
 
   -- and one of a split word's second cycle, without sXTRQ
-  pub quiet_fits : wordSignals event.kind (slave_at m.bus.pages event.address) ≡ 0x80 → (address byte : ℕ) (doutDriven dinDriven : Bool)
+  pub quiet_fits : word_signals event.kind (slave_at m.bus.pages event.address) ≡ 0x80 → (address byte : ℕ) (doutDriven dinDriven : Bool)
       → Fits (moment_of event (answer_to m event) (without_request (answer_to m event).signals) address byte byte doutDriven dinDriven)
       (answer_to m event).phase event.kind 0
   quiet_fits is address byte doutDriven dinDriven = record {
@@ -182,18 +182,18 @@ module _ (m : Machine) (event : Event) (ok : refusal_in m event ≡ 0) where
   }
 
   -- no word, or a word by its page
-  pub no_word : Kind.is_word event.kind ≡ false → wordSignals event.kind (slave_at m.bus.pages event.address) ≡ 0
-  unfolding wordSignals
+  pub no_word : Kind.is_word event.kind ≡ false → word_signals event.kind (slave_at m.bus.pages event.address) ≡ 0
+  unfolding word_signals
   no_word none = rw none refl
 
   pub eight_word : Kind.is_word event.kind ≡ true → page_at m.bus.pages event.address ≡ 1
-      → wordSignals event.kind (slave_at m.bus.pages event.address) ≡ 0x80
-  unfolding wordSignals
+      → word_signals event.kind (slave_at m.bus.pages event.address) ≡ 0x80
+  unfolding word_signals
   eight_word word code = rw (word, code) refl
 
   pub sixteen_word : Kind.is_word event.kind ≡ true → page_at m.bus.pages event.address ≡ 2
-      → wordSignals event.kind (slave_at m.bus.pages event.address) ≡ 0xC0
-  unfolding wordSignals
+      → word_signals event.kind (slave_at m.bus.pages event.address) ≡ 0xC0
+  unfolding word_signals
   sixteen_word word code = rw (word, code) refl
 
   -- an event that is no cycle has no status

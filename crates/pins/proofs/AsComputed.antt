@@ -8,7 +8,6 @@ use Rattle.phases.specs.Control.{strobe_of, control_in}
 use Rattle.text.specs.Digits.{digits_of}
 use Rattle.pins.specs.Pin.{pin_table}
 use Rattle.pins.specs.Moments.{moments_of}
-use Rattle.pins.specs.Picture.{levels_of, driven_of, lines_for}
 use Rattle.pins.specs.ReadAgain.{gathered, picture_in}
 use Rattle.pins.proofs.TableLaws.{by_rows, lines_by_rows, lines_by_rows_holds}
 use Rattle.pins.specs.Examples.{Sizes, Stars, Standing, Cycling, Telling}

@@ -22,7 +22,7 @@ use Rattle.pins.specs.Pin.{pin_table}
 use Rattle.pins.specs.Moments.{moment_of, idle_moment, byte_moment, word_moment, even_moment, odd_moment}
 use Rattle.pins.specs.Moments.{has_strobe, odd_of_pair, moments_of}
 use Rattle.pins.specs.Picture.{picture_of, pictures_of, lines_for}
-use Rattle.pins.specs.Promises.{OneLine, TwoLines, has_cycle_kind, ByAnswer, AtAddress, InOneLine, AnswerPictured, AnyAnswerPictured}
+use Rattle.pins.specs.Promises.{OneLine, TwoLines, has_cycle_kind, ByAnswer, AtAddress, InOneLine, AnyAnswerPictured}
 use Rattle.pins.specs.declared.moments.Moment.{Moment}
 use Rattle.pins.proofs.DigitLaws.{no_picture}
 use Rattle.pins.proofs.MomentLaws.{agree, agreed, pin, priority_on_holds, address_on, on_both}

@@ -1,15 +1,14 @@
 -- A pin of a line, found by its number, is driven and high as the table's rule for it says.
 use mathlib.Core.Path.{◌≡◌, refl, sym, ap, ◌∙◌}
 use mathlib.Core.Bool.{Bool, true, false, cond, not, ◌&&◌}
-use mathlib.Core.List.{List, ◌++◌}
 use Prim.Native.Nat.{ℕ, zero, suc, ◌+◌, ◌-◌, ◌*◌, ◌/◌, ◌%◌, ◌<◌, ◌≤◌}
 use native.Mathlib.Omega.{arith}
-use lib.ListN.{length, get_or, get_or-append}
+use lib.ListN.{get_or, get_or-append}
 use lib.Seq.{get_or-append-add}
 use Rattle.words.specs.Bits.{bit_at}
 use Rattle.words.specs.Below.{list_below}
 use Rattle.words.proofs.BelowLaws.{list_below_at}
-use Rattle.text.specs.Digits.{value_of, digit_of}
+use Rattle.text.specs.Digits.{value_of}
 use Rattle.text.proofs.ReadBack.{digits_read_back}
 use Rattle.pins.specs.BusLine.{is_driven, is_true}
 use Rattle.pins.specs.Pin.{Pin, pin_at, is_high}

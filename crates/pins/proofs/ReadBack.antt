@@ -22,7 +22,7 @@ use Rattle.memory.specs.Halves.{even_half, odd_half}
 use Rattle.judgement.specs.Table.{is_cycle}
 use Rattle.judgement.specs.declared.event.Event.{Event}
 use Rattle.events.specs.Machine.{Machine}
-use Rattle.events.specs.Answers.{wordSignals}
+use Rattle.events.specs.Answers.{word_signals}
 use Rattle.events.specs.Cycles.{slave_at}
 use Rattle.events.specs.Step.{refusal_in, answer_to}
 use Rattle.events.specs.Promises.{code_there}
@@ -179,7 +179,7 @@ module _ (m : Machine) (event : Event) (ok : refusal_in m event ≡ 0) where
       (fits_as m event ok 0 (inl refl) (no_word m event ok narrow) event.address datum datum (is_writing event.kind) (is_reading event.kind))
       (inl refl) refl refl
 
-  word_reads : Kind.is_word event.kind ≡ true → (w : ℕ) → Word w → wordSignals event.kind (slave_at m.bus.pages event.address) ≡ w
+  word_reads : Kind.is_word event.kind ≡ true → (w : ℕ) → Word w → word_signals event.kind (slave_at m.bus.pages event.address) ≡ w
       → picture_in (take 50 (pictures m event)) ≡ seen (answer_to m event).phase (answer_to m event).signals (answer_to m event).lines
   word_reads word w some adds = go (eqb (answer_to m event).cycles 2) refl
     where

@@ -5,14 +5,11 @@ use mathlib.Core.List.{List, [], ◌∷◌, ◌++◌}
 use Prim.Native.Nat.{ℕ}
 use Rattle.words.specs.Below.{list_below}
 use Rattle.words.specs.Among.{beside}
-use Rattle.judgement.specs.declared.event.Event.{Event}
-use Rattle.events.specs.declared.answers.Answer.{Answer}
 use Rattle.text.specs.Digits.{digit_of}
 use Rattle.text.specs.Newlines.{newline}
 use Rattle.pins.specs.BusLine.{is_driven}
 use Rattle.pins.specs.Pin.{Pin, pin_table, is_high}
-use Rattle.pins.specs.Moments.{moments_of}
-use Rattle.pins.specs.Picture.{four_bits, pins_digit, level_digits, levels_of, driven_of, picture_line, lines_for, pictures_of}
+use Rattle.pins.specs.Picture.{four_bits, pins_digit, level_digits, levels_of, driven_of, picture_line, lines_for}
 use Rattle.pins.specs.declared.moments.Moment.{Moment}
 
 -- four rows to a digit

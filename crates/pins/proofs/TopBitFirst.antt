@@ -1,7 +1,7 @@
 -- The reader finds a pin where the number that the digits write has it: pin 1 in the top place, pin 100 in the lowest.
-use mathlib.Core.Path.{◌≡◌, refl, sym, ap, ◌∙◌}
-use mathlib.Core.Bool.{Bool, true}
-use mathlib.Core.List.{List, [], ◌∷◌, ◌++◌}
+use mathlib.Core.Path.{◌≡◌, sym, ap, ◌∙◌}
+use mathlib.Core.Bool.{true}
+use mathlib.Core.List.{List}
 use Prim.Native.Nat.{ℕ, zero, suc, ◌+◌, ◌-◌, ◌*◌, ◌/◌, ◌%◌, ◌^◌, ◌<◌, ◌≤◌}
 use native.Mathlib.Decide.{dec_lt}
 use native.Mathlib.Omega.{arith}
@@ -12,7 +12,7 @@ use Rattle.words.specs.Bits.{bit_at}
 use Rattle.words.specs.Among.{every_listed}
 use Rattle.words.proofs.BitLaws.{bit_high}
 use Rattle.words.proofs.ListLaws.{every_at, every_of}
-use Rattle.text.specs.Digits.{is_digit, value_of, number_after, number_of, is_digits}
+use Rattle.text.specs.Digits.{is_digit, value_of, number_of, is_digits}
 use Rattle.text.proofs.DigitLaws.{value_small}
 use Rattle.text.proofs.FaultLaws.{all_digits_of}
 use Rattle.text.proofs.ReadBack.{number_last}

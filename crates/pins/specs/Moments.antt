@@ -1,5 +1,5 @@
 -- What the pictures of an accepted event show: one moment, or two for a split word (02, CR 1). They go by the event and its answer alone.
-use Rattle.std.specs.Prelude.{ℕ, ◌+◌, ◌*◌, ◌/◌, ◌%◌, Bool, true, false, cond, not, ◌&&◌, ◌||◌, List, [], ◌∷◌, eqb}
+use Rattle.std.specs.Prelude.{ℕ, ◌+◌, ◌*◌, ◌/◌, ◌%◌, Bool, true, false, cond, ◌&&◌, ◌||◌, List, [], ◌∷◌, eqb}
 use Rattle.phases.specs.Kind as Kind
 use Rattle.phases.specs.Signal.{sXTRQ}
 use Rattle.phases.specs.Control.{is_reading, is_writing, control_in}

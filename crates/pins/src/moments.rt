@@ -1,7 +1,7 @@
 // What a line of a picture shows, and what is read from one.
 
 // What stands on the bus at the moment that a line shows. Where something isn't driven its number says nothing.
-#[derive(Drop)]
+#[derive(Clone, Copy)]
 pub struct Moment {
     // The true signals, as an answer weighs them.
     pub signals: u8,
@@ -21,7 +21,7 @@ pub struct Moment {
 }
 
 // What the pins of a picture tell, or why its line can't be read; behind 0D the column of its first wrong character, and else 0.
-#[derive(Drop)]
+#[derive(Clone, Copy)]
 pub struct Seen {
     pub refusal: u8,
     pub phase: u8,

@@ -1,4 +1,6 @@
 // The answer line and the outcome lines, written.
+#![tactic(auto)]
+
 mod outcomes;
 mod printing;
 

@@ -1,4 +1,6 @@
 // The text programs: they read their input, hand the session what came, and write what is wanted, answers, pictures or outcomes, to standard output.
+#![tactic(auto)]
+
 ghost use Rattle.std.specs.Prelude.{◌<◌, ◌≡◌, take};
 
 use feeding::{feed, finish, fresh, has_room};
@@ -6,7 +8,7 @@ use libc::STDOUT_FILENO;
 use session::{Fed, Session, Stage};
 
 // A turn's end.
-#[derive(Drop)]
+#[derive(Clone, Copy)]
 struct Turn {
     // There is more to come: nothing failed, and the end was not yet told.
     goes_on: bool,
@@ -17,7 +19,7 @@ struct Turn {
 }
 
 // What is in the text before a call.
-#[derive(Drop)]
+#[derive(Clone, Copy)]
 struct Filled {
     failed: bool,
     ended: bool,

@@ -12,5 +12,6 @@ pub signals_parts : (line : List ℕ) → disabling_on line + others_on line ≡
 signals_parts line = omega (arith, signals_in_order line)
 
 pub lines_four : (line : List ℕ)
-    → cond (true_on line 14 true) 8 0 + cond (true_on line 55 true) 1 0 + cond (true_on line 56 true) 2 0 + cond (true_on line 57 true) 4 0 ≡ priority_lines_on line
+    → cond (true_on line 14 true) 8 0 + cond (true_on line 55 true) 1 0 + cond (true_on line 56 true) 2 0 + cond (true_on line 57 true) 4 0
+    ≡ priority_lines_on line
 lines_four line = omega (arith, lines_in_order line)

@@ -1,4 +1,6 @@
 // Lines of text, read.
+#![tactic(auto)]
+
 mod digits;
 mod faults;
 mod line_reading;

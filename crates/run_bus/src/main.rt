@@ -1,4 +1,6 @@
 // Prints the tables of the bus and runs of its methods, in hexadecimal. The file stdout was written by hand, from the tables and runs of 01.
+#![tactic(auto)]
+
 use bus::{Bus, Chassis, Settlement, SetupAnswer};
 use memory::{EIGHT_BIT_PAGE, Moved, SIXTEEN_BIT_PAGE, Slave};
 use phases::numbers::*;

@@ -1,5 +1,7 @@
 // Runs events with a memory, ports and a state that no text can bring about (01 and 02), and prints each answer as 01's line has it. The file
 // stdout was written by hand from 01.
+#![tactic(auto)]
+
 use bus::{Bus, Chassis};
 use events::Answer;
 use judgement::Event;

@@ -1,4 +1,6 @@
 // Runs of the text programs on files: on each that an argument names, in their order.
+#![tactic(auto)]
+
 ghost use Rattle.std.specs.Prelude.{◌≡◌};
 
 // It has no result, and what it prints is compared with a file.

@@ -1,4 +1,6 @@
 // Whether a state makes sense, and the setup that begins with one that does.
+#![tactic(auto)]
+
 ghost use Rattle.std.specs.Prelude.{◌≡◌};
 ghost use Rattle.bus.specs.Sense.{codes_known, contention_fits, driving_fits, grant_fits, standing_fits, makes_sense};
 ghost use Rattle.bus.specs.State.{free_bus};

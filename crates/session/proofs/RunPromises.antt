@@ -26,7 +26,7 @@ use Rattle.bus.specs.Setup.{empty_bus}
 use Rattle.bus.specs.declared.state.Bus.{Bus}
 use Rattle.bus.specs.declared.state.SetupAnswer.{SetupAnswer}
 use Rattle.events.specs.Machine.{Machine, machine}
-use Rattle.events.specs.Answers.{answerWith}
+use Rattle.events.specs.Answers.{answer_with}
 use Rattle.judgement.specs.Judge.{reasons_against, refusal_of}
 use Rattle.judgement.specs.declared.event.Event.{Event}
 use Rattle.events.specs.Step.{refusal_in, answer_to}
@@ -174,7 +174,7 @@ module _ (line : List ℕ) (right : is_digits setup_digits line ≡ true) (low :
       answered_with n bus = record { answer = n; bus = bus }
 
   accepted_says : (bus : Bus) (m p : List ℕ)
-      → says Answers (world Awaiting bus m p) line ≡ answer_line (answerWith Refusal.accepted (free_bus (chassis_in line)) (signals_in Phase.free) 0 nothing)
+      → says Answers (world Awaiting bus m p) line ≡ answer_line (answer_with Refusal.accepted (free_bus (chassis_in line)) (signals_in Phase.free) 0 nothing)
   unfolding says_by
   accepted_says bus m p = rw set_up_as_written refl
 

@@ -8,7 +8,7 @@ use Rattle.bus.specs.declared.state.Bus.{Bus}
 use Rattle.bus.specs.declared.state.SetupAnswer.{SetupAnswer}
 use Rattle.judgement.specs.declared.event.Event.{Event}
 use Rattle.events.specs.Machine.{Machine, machine}
-use Rattle.events.specs.Answers.{answerWith, bareWith}
+use Rattle.events.specs.Answers.{answer_with, bare_with}
 use Rattle.events.specs.Step.{after, answer_to}
 use Rattle.events.specs.declared.answers.Answer.{Answer}
 use Rattle.text.specs.Digits.{is_digits}
@@ -51,8 +51,8 @@ set_up_by line = cond (eqb line.fault.refusal Refusal.accepted) (setup_of line.c
 -- behind a refusal there is nothing but the column of a wrong character
 abbrev pub setup_answer : Fault → SetupAnswer → Answer
 setup_answer fault given =
-    cond (eqb given.answer Refusal.accepted) (answerWith Refusal.accepted given.bus (signals_in given.bus.phase) 0 nothing)
-    (bareWith given.answer fault.column)
+    cond (eqb given.answer Refusal.accepted) (answer_with Refusal.accepted given.bus (signals_in given.bus.phase) 0 nothing)
+    (bare_with given.answer fault.column)
 
 abbrev pub stage_after : SetupAnswer → Stage
 stage_after given = cond (eqb given.answer Refusal.accepted) Running Ended
@@ -96,7 +96,7 @@ closing Outcomes session = outcomes_left session.stage session.bus
 -- ---- Event lines: what is wrong with a bad one (01, and 02, CR 2), and otherwise the step of `events`
 
 abbrev pub fault_answer : Fault → Answer
-fault_answer fault = bareWith fault.refusal fault.column
+fault_answer fault = bare_with fault.refusal fault.column
 
 abbrev pub event_said : Wanted → Machine → List ℕ → List ℕ
 event_said wanted m line =

@@ -2,7 +2,7 @@
 use crate::state::Session;
 
 // The session after a call, how many bytes of text are held at its front, and how many bytes were written.
-#[derive(Drop)]
+#[derive(Clone, Copy)]
 pub struct Fed {
     // 0, or why nothing was done.
     pub refusal: u8,
@@ -12,7 +12,7 @@ pub struct Fed {
 }
 
 // The session after some lines, the bytes of text that they had, and the bytes written.
-#[derive(Drop)]
+#[derive(Clone, Copy)]
 pub struct TakenLines {
     pub session: Session,
     pub used: usize,

@@ -1,4 +1,6 @@
 // A run of the program: its stages, what each line is answered and where it leads, and what a call that is given text tells.
+#![tactic(auto)]
+
 mod calls;
 mod state;
 

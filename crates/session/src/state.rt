@@ -1,7 +1,7 @@
 // How far a run is, and what is wanted of it.
 use bus::Bus;
 
-#[derive(Drop)]
+#[derive(Clone, Copy)]
 pub enum Stage {
     // The setup line is still to come.
     Awaiting,
@@ -11,7 +11,7 @@ pub enum Stage {
     Ended,
 }
 
-#[derive(Drop)]
+#[derive(Clone, Copy)]
 pub struct Session {
     pub stage: Stage,
     pub bus: Bus,
@@ -25,7 +25,7 @@ pub const WANTS_PICTURES: u8 = 1;
 pub const WANTS_OUTCOMES: u8 = 2;
 
 // What is written of a run.
-#[derive(Drop)]
+#[derive(Clone, Copy)]
 pub enum Wanted {
     // An answer line for each line.
     Answers,

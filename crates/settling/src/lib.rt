@@ -1,4 +1,6 @@
 // Settle: looks in list order until the lines are settled.
+#![tactic(auto)]
+
 ghost use Rattle.std.specs.Prelude.{◌≡◌, cond};
 ghost use Rattle.bus.specs.Refusal.{unsettled};
 ghost use Rattle.bus.specs.Settle.{leading_looks, list_refusal, never_settles, settle_refused, accepted_after, settle_of};

@@ -1,6 +1,6 @@
 // What is answered to an event.
 ghost use Rattle.std.specs.Prelude.{◌≡◌};
-ghost use Rattle.events.specs.Answers.{answerWith, signalsWith, wordSignals, bareWith, bare};
+ghost use Rattle.events.specs.Answers.{answer_with, signals_with, word_signals, bare_with, bare};
 
 use bus::Bus;
 use events::Answer;
@@ -11,7 +11,7 @@ use tables::signals;
 
 // What the bus shows, and beside it what a cycle had on it.
 pub fn answer_with(refusal: u8, bus: Bus, signals: u8, status: u8, moved: Moved) -> Answer
-    ensures { result ≡ answerWith refusal bus signals status moved }
+    ensures { result ≡ answer_with refusal bus signals status moved }
 {
     Answer {
         refusal: refusal,
@@ -27,14 +27,14 @@ pub fn answer_with(refusal: u8, bus: Bus, signals: u8, status: u8, moved: Moved)
 
 // The phase's signals, with those of a word.
 pub fn signals_with(phase: u8, kind: u8, slave: Slave) -> u8
-    ensures { result ≡ signalsWith phase kind slave }
+    ensures { result ≡ signals_with phase kind slave }
 {
     signals(phase) + word_signals(kind, slave)
 }
 
 // sXTRQ, and SIXTN where the slave asserts it.
 fn word_signals(kind: u8, slave: Slave) -> u8
-    ensures { result ≡ wordSignals kind slave }
+    ensures { result ≡ word_signals kind slave }
 {
     if (kind == WORD_READ) | (kind == WORD_WRITE) {
         if asserts_sixtn(slave) {
@@ -56,7 +56,7 @@ pub fn bare(refusal: u8) -> Answer
 
 // A number with nothing but a datum behind it.
 pub fn bare_with(refusal: u8, datum: u16) -> Answer
-    ensures { result ≡ bareWith refusal datum }
+    ensures { result ≡ bare_with refusal datum }
 {
     Answer {
         refusal: refusal,

@@ -1,4 +1,6 @@
 // Events on a bus with its memory and its ports: each is judged, and either refused or its step taken.
+#![tactic(auto)]
+
 mod answering;
 mod cycles;
 mod steps;

@@ -1,6 +1,6 @@
 // The step of an event.
 ghost use Rattle.std.specs.Prelude.{◌≡◌};
-ghost use Rattle.events.specs.Answers.{refusedWith};
+ghost use Rattle.events.specs.Answers.{refused_with};
 ghost use Rattle.events.specs.Machine.{machine};
 ghost use Rattle.events.specs.Step.{bus_by, taken_by, answer_by, stepped, after, step_of, sound_after, sound_step_of};
 
@@ -66,7 +66,7 @@ pub fn step(bus: Bus, event: Event, memory: &mut [u8], ports: &mut [u8]) -> Step
 
 // A refused event leaves the bus as it was.
 fn refused(refusal: u8, bus: Bus) -> Stepped
-    ensures { result ≡ stepped bus (refusedWith refusal bus) }
+    ensures { result ≡ stepped bus (refused_with refusal bus) }
 {
     if refusal <= SENSELESS {
         Stepped {

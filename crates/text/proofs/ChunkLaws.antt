@@ -4,7 +4,7 @@ use mathlib.Core.List.{List, [], ◌∷◌, ◌++◌, append-nil, append_assoc}
 use Prim.Native.Nat.{ℕ}
 use lib.ListN.{length}
 use Rattle.text.specs.Newlines.{text_lines}
-use Rattle.text.specs.Reading.{Reader, Taken, answers_to, taken_off}
+use Rattle.text.specs.Reading.{Reader, answers_to, taken_off}
 use Rattle.text.specs.Chunks.{Run, begun_in, fed_with, fed_all, whole_text}
 use Rattle.text.specs.Promises.{GoesByFront, ChunksSayTheSame}
 use Rattle.text.proofs.ReadingLaws.{by_lines}

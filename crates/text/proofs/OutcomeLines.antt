@@ -24,7 +24,7 @@ use Rattle.text.specs.OutcomeLine.{
   outcomes_length,
   outcomes_put,
 }
-use Rattle.text.specs.Promises.{outcome_on_line, FiguresFit, OutcomeReadsBack, OutcomesInOrder, OnlyOutcomesWritten}
+use Rattle.text.specs.Promises.{outcome_on_line, OutcomeReadsBack, OutcomesInOrder, OnlyOutcomesWritten}
 use Rattle.text.proofs.DigitLaws.{digits_sized}
 use Rattle.text.proofs.ReadBack.{numbers_back, fields_digits, right_digits}
 

@@ -28,21 +28,21 @@ pub const LONGEST: usize = SETUP_DIGITS;
 
 // What is wrong with a line: its number, and the column of its first wrong character, counted from 1. Where no character is to blame the column
 // is 0, and where nothing is wrong the number too.
-#[derive(Drop)]
+#[derive(Clone, Copy)]
 pub struct Fault {
     pub refusal: u8,
     pub column: u8,
 }
 
 // A line that is no event's: its bytes, and what is wrong with it.
-#[derive(Drop)]
+#[derive(Clone, Copy)]
 pub struct BadLine {
     pub size: usize,
     pub fault: Fault,
 }
 
 // What a text begins with.
-#[derive(Drop)]
+#[derive(Clone, Copy)]
 pub enum Line {
     // A line with an event.
     Frame(Event),
@@ -53,7 +53,7 @@ pub enum Line {
 }
 
 // What setup is given by its line, empty where there is a fault.
-#[derive(Drop)]
+#[derive(Clone, Copy)]
 pub struct SetupLine {
     pub fault: Fault,
     pub chassis: Chassis,

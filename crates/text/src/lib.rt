@@ -1,4 +1,6 @@
 // Text as bytes: the setup line, the event line, the answer line and the outcome line.
+#![tactic(auto)]
+
 pub mod answer_line;
 pub mod frames;
 pub mod outcome_line;

@@ -1,7 +1,0 @@
--- From what the two calls ensure.
-use borrow.Author.Rules.{rules}
-use Rattle.bus.proofs.state.Bus.may_acknowledge.Statement.{statement}
-use Rattle.bus.proofs.state.Bus.may_acknowledge.Tie as tie
-
-pub may_acknowledge_spec : {M : Type 1} → statement M
-may_acknowledge_spec = tie.close (tie.spec (λ c κs. search rules) (λ c κs. search rules) (λ c. rw (c.before.some-card.ensures, c.is-settled.ensures)))

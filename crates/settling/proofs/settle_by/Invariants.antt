@@ -1,0 +1,14 @@
+-- The looks taken so far are the leading part of the list, and no shorter part settles the lines.
+use Prim.Native.Nat.{◌≤◌, ◌-◌}
+use mathlib.Core.Path.{◌≡◌}
+use lib.ListN.{length, take}
+use Rattle.bus.specs.Steps.{after_looks_of}
+use Rattle.bus.proofs.SettleLaws.{NotBefore}
+use Rattle.settling.proofs.settle_by.Given as goal
+
+abbrev pub invariant-loop-start : goal.invariant-loop-start
+invariant-loop-start l =
+    (l.n ≤ length l.cards) × ((l.bus ≡ after_looks_of l.start (take l.n l.cards)) × NotBefore l.start l.cards l.n)
+
+abbrev pub decreases-loop-start : goal.decreases-loop-start
+decreases-loop-start l = length l.cards - l.n
