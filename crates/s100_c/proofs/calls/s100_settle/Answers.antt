@@ -16,7 +16,7 @@ returns-then-state-eq-STATE_SIZE c =
     let fits = eq-eqb (length given.state.now) state_size c.if-state-eq-STATE_SIZE.true in
     -- the settlement of the state that was lent
     let same : c.settle-settled.result ≡ settle_of (bus_in given.state.now) given.cards.now =
-        c.settle-settled.ensures ∙ ap (λ (b : Bus). settle_of b given.cards.now) c.bus_in.ensures in
+    c.settle-settled.ensures ∙ ap (λ (b : Bus). settle_of b given.cards.now) c.bus_in.ensures in
     record {
       answers = then_pick wrong_length fits (ap (λ (s : Settlement). s.answer) same);
       leaves = then_pick given.state.now fits (c.put_bus.ensures ∙ ap (λ (s : Settlement). state_bytes s.bus) same);

@@ -3,15 +3,13 @@ use mathlib.Core.Path.{◌≡◌, refl, ap, ◌∙◌}
 use mathlib.Core.List.{List}
 use Prim.Native.Nat.{ℕ}
 use native.Mathlib.Omega.{arith}
-use lib.ListN.{length}
 use lib.Seq.{take_all}
 use Rattle.words.proofs.TestLaws.{then_pick, else_pick}
 use Rattle.bus.specs.Refusal.{wrong_length}
 use Rattle.bus.specs.State.{chassis}
 use Rattle.bus.specs.Setup.{setup_of}
-use Rattle.bus.specs.declared.state.Chassis.{Chassis}
 use Rattle.bus.specs.declared.state.SetupAnswer.{SetupAnswer}
-use Rattle.s100_c.specs.Layout.{state_size, state_bytes}
+use Rattle.s100_c.specs.Layout.{state_bytes}
 use Rattle.s100_c.proofs.CallLaws.{setup_fits_holds}
 use Rattle.s100_c.proofs.calls.s100_setup.Goals as goal
 
@@ -30,7 +28,7 @@ returns-then-pages-state c =
     let pages = c.sixteen_at.ensures ∙ take_all 16 given.pages.now (omega (arith, fits.0)) in
     -- setup by the chassis that was given
     let same : c.setup-set.result ≡ setup_of (chassis given.fitted given.pages.now) =
-        c.setup-set.ensures ∙ ap (λ (l : List ℕ). setup_of (chassis given.fitted l)) pages in
+    c.setup-set.ensures ∙ ap (λ (l : List ℕ). setup_of (chassis given.fitted l)) pages in
     record {
       answers = then_pick wrong_length fit (ap (λ (s : SetupAnswer). s.answer) same);
       leaves = then_pick given.state.now fit (c.put_bus.ensures ∙ ap (λ (s : SetupAnswer). state_bytes s.bus) same);

@@ -3,7 +3,17 @@ use mathlib.Core.Path.{ap}
 use mathlib.Core.Bool.{not}
 use Rattle.judgement.specs.Table.{event_of}
 use Rattle.s100_c.specs.Calls.{lent, machine_in}
-use Rattle.s100_c.proofs.CallLaws.{places_fit_holds, all_fit, buffers_misfit, places_misfit, placed_answers, misplaced_answers, fitting_leaves, misfitting_leaves, first_answer}
+use Rattle.s100_c.proofs.CallLaws.{
+  places_fit_holds,
+  all_fit,
+  buffers_misfit,
+  places_misfit,
+  placed_answers,
+  misplaced_answers,
+  fitting_leaves,
+  misfitting_leaves,
+  first_answer,
+}
 use Rattle.s100_c.proofs.calls.s100_step.Goals as goal
 
 pub take_step-requires : goal.take_step-requires

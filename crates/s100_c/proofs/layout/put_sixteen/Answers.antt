@@ -1,5 +1,5 @@
 -- The bytes put so far are the first entries, and the buffer is as long as it was.
-use Prim.Native.Nat.{ℕ, suc, ◌-◌, ◌+◌}
+use Prim.Native.Nat.{ℕ, suc, ◌+◌}
 use mathlib.Core.Path.{◌≡◌, refl, sym, ap, ◌∙◌}
 use mathlib.Core.List.{List}
 use native.Mathlib.Omega.{arith}

@@ -47,9 +47,9 @@ returns-then-state-outcome c =
     let long = both_long given.state.now place fit in
     -- what is told, of the state that was lent
     let told : c.figures-figures.result ≡ figures_for (bus_in given.state.now) given.card =
-        c.figures-figures.ensures
-        ∙ ap (figures_of given.card) c.outcome_for.ensures
-        ∙ ap (λ (bus : Bus). figures_for bus given.card) c.bus_in.ensures in
+    c.figures-figures.ensures
+    ∙ ap (figures_of given.card) c.outcome_for.ensures
+    ∙ ap (λ (bus : Bus). figures_for bus given.card) c.bus_in.ensures in
     let stored = sets_all place (outcome_bytes c.figures-figures.result) (sym long.1) in
     record {
       answers = then_pick wrong_length fit (ap (λ (f : Figures). f.answer) told);

@@ -13,7 +13,7 @@ use Rattle.judgement.specs.Table.{event_of}
 use Rattle.events.specs.declared.answers.Answer.{Answer}
 use Rattle.pins.specs.Picture.{most_pictured, pictures_of}
 use Rattle.pins.proofs.DigitLaws.{pictures_fit, pictured_fits}
-use Rattle.s100_c.specs.Layout.{answer_size, answer_in}
+use Rattle.s100_c.specs.Layout.{answer_size}
 use Rattle.s100_c.specs.Pictures.{pictures_for, picture_fits}
 use Rattle.s100_c.proofs.pictures.s100_picture.Goals as goal
 
@@ -44,9 +44,9 @@ returns-then-answer-lines c =
     -- what was put, by the answer in the bytes
     let same = c.answer_in.ensures in
     let put : c.put_pictures.result ≡ length (pictures_for given.kind given.address given.answer.now) =
-        c.put_pictures.ensures.put ∙ room.0 ∙ ap (λ (a : Answer). length (pictures_of event a)) same in
+    c.put_pictures.ensures.put ∙ room.0 ∙ ap (λ (a : Answer). length (pictures_of event a)) same in
     let left : c.put_pictures.new.out ≡ sets given.lines.now 0 (pictures_for given.kind given.address given.answer.now) =
-        c.put_pictures.ensures.left ∙ room.1 ∙ ap (λ (a : Answer). sets given.lines.now 0 (pictures_of event a)) same in
+    c.put_pictures.ensures.left ∙ room.1 ∙ ap (λ (a : Answer). sets given.lines.now 0 (pictures_of event a)) same in
     rw c.if-answer-lines.true (record { answers = put; leaves = left })
 
 pub returns-else-answer-lines : goal.returns-else-answer-lines
