@@ -38,15 +38,18 @@ returns-else-pair-gt1 c =
 
 pub overflow_mul-result : goal.overflow_mul-result
 overflow_mul-result c =
-    let both_bytes : OneByte c.byte_write-even.result × OneByte c.byte_write-odd.result = let sixteen-bits = c.ranges.datum in (byte_write_one _ _ _ _ c.byte_write-even.ensures.moved (omega arith), byte_write_one _ _ _ _ c.byte_write-odd.ensures.moved (omega arith)) in
+    let both_bytes : OneByte c.byte_write-even.result × OneByte c.byte_write-odd.result = let sixteen-bits = c.ranges.datum in
+    (byte_write_one _ _ _ _ c.byte_write-even.ensures.moved (omega arith), byte_write_one _ _ _ _ c.byte_write-odd.ensures.moved (omega arith)) in
     omega (arith, both_bytes)
 
 pub overflow_add-result : goal.overflow_add-result
 overflow_add-result c =
-    let both_bytes : OneByte c.byte_write-even.result × OneByte c.byte_write-odd.result = let sixteen-bits = c.ranges.datum in (byte_write_one _ _ _ _ c.byte_write-even.ensures.moved (omega arith), byte_write_one _ _ _ _ c.byte_write-odd.ensures.moved (omega arith)) in
+    let both_bytes : OneByte c.byte_write-even.result × OneByte c.byte_write-odd.result = let sixteen-bits = c.ranges.datum in
+    (byte_write_one _ _ _ _ c.byte_write-even.ensures.moved (omega arith), byte_write_one _ _ _ _ c.byte_write-odd.ensures.moved (omega arith)) in
     omega (arith, both_bytes)
 
 pub overflow_add-result-then-pair-gt1 : goal.overflow_add-result-then-pair-gt1
 overflow_add-result-then-pair-gt1 c =
-    let both_bytes : OneByte c.byte_write-even.result × OneByte c.byte_write-odd.result = let sixteen-bits = c.ranges.datum in (byte_write_one _ _ _ _ c.byte_write-even.ensures.moved (omega arith), byte_write_one _ _ _ _ c.byte_write-odd.ensures.moved (omega arith)) in
+    let both_bytes : OneByte c.byte_write-even.result × OneByte c.byte_write-odd.result = let sixteen-bits = c.ranges.datum in
+    (byte_write_one _ _ _ _ c.byte_write-even.ensures.moved (omega arith), byte_write_one _ _ _ _ c.byte_write-odd.ensures.moved (omega arith)) in
     omega (arith, both_bytes)
