@@ -1,6 +1,7 @@
 /* What a board without an operating system brings to run one of the text programs: a place for the stack, a start, and the functions that the compiled
-   program calls, which are read, write and those that copy and clear memory. Here read and write ask the system that an emulator of an Arm
-   processor stands for, so that the program can be tried; a board would ask its serial line. Sizes have 64 bits, as in the program's code.
+   program calls, which are read, write, those that copy and clear memory, one that says why read or write failed, and one that is called once, at the
+   start. Here read and write ask the system that an emulator of an Arm processor stands for, so that the program can be tried; a board would ask its
+   serial line. Sizes have 64 bits, as in the program's code.
 
    Compiled with STACK, the bytes of the place. What lies below it is watched: where it was written to, the program ends with 99. At the end it
    writes to standard error how many bytes of the stack were used. */
@@ -29,6 +30,17 @@ count read(int from, void *bytes, count most) { return ask(READ, from, bytes, (s
 
 count write(int to, const void *bytes, count most) { return ask(WRITE, to, bytes, (size)most); }
 
+/* Why a call failed: an error of input or output, whatever it was. */
+int rattle_errno(void) { return 5; }
+
+/* The program asks at its start that a pipe which nobody reads any more fail a write and end nothing. A board has no pipes. */
+count __sysv_signal(int signal, count handler)
+{
+    (void)signal;
+    (void)handler;
+    return 0;
+}
+
 void *memcpy(void *to, const void *from, size bytes)
 {
     for (size i = 0; i < bytes; i++)
@@ -48,6 +60,7 @@ void __aeabi_memcpy(void *to, const void *from, size bytes) { memcpy(to, from, b
 void __aeabi_memcpy4(void *to, const void *from, size bytes) { memcpy(to, from, bytes); }
 void __aeabi_memclr(void *to, size bytes) { memset(to, 0, bytes); }
 void __aeabi_memclr4(void *to, size bytes) { memset(to, 0, bytes); }
+void __aeabi_memclr8(void *to, size bytes) { memset(to, 0, bytes); }
 void __aeabi_memset(void *to, size bytes, int byte) { memset(to, byte, bytes); }
 
 static void write_number(size number)

@@ -20,7 +20,6 @@ use Rattle.session.specs.declared.state.Stage.{Stage}
 use Rattle.session.specs.declared.state.Stage.TheVariants.{Awaiting, Running, Ended}
 use Rattle.session.specs.declared.state.Session.{Session}
 use Rattle.session.specs.declared.state.Wanted.{Wanted}
-use Rattle.session.specs.declared.state.Wanted.TheVariants.{Outcomes}
 use Rattle.session.specs.declared.calls.Fed.{Fed}
 use Rattle.session.proofs.LoopLaws.{closing_at_most}
 use Rattle.session.proofs.FeedLaws.{ClosedAs}

@@ -1,11 +1,11 @@
-// The text programs: they read their input, hand the session what came, and write what is wanted, answers, pictures or outcomes, to standard output.
+// The text programs: they read their input, hand the session what came, and write what is wanted, answers, pictures or outcomes, to their output.
 #![tactic(auto)]
 
 ghost use Rattle.std.specs.Prelude.{◌<◌, ◌≡◌, take};
 
 use feeding::{feed, finish, fresh, has_room};
-use libc::STDOUT_FILENO;
 use session::{Fed, Session, Stage};
+use std::io::{Read, Write};
 
 // A turn's end.
 #[derive(Clone, Copy)]
@@ -26,8 +26,8 @@ struct Filled {
     size: usize,
 }
 
-// It has no result, and no contract can say what is read and written: the runs compare that.
-pub fn run(wanted: u8, input: i32)
+// It has no result, and no contract can say what a file or a terminal gives and takes: the runs compare that.
+pub fn run<R: Read, W: Write>(wanted: u8, input: &mut R, output: &mut W)
     ensures { result ≡ tt }
 {
     // A text full of right lines has its answers written at once. Less room, down to 22 bytes of text and the most that is written at once, would do
@@ -36,13 +36,22 @@ pub fn run(wanted: u8, input: i32)
     let mut out = [0u8; 41984];
     let mut memory = [0u8; 65536];
     let mut ports = [0u8; 256];
-    take_turns(wanted, input, &mut text, &mut out, &mut memory, &mut ports);
+    take_turns(
+        wanted,
+        input,
+        output,
+        &mut text,
+        &mut out,
+        &mut memory,
+        &mut ports,
+    );
 }
 
 // A proved loop ends, and no input is as long as this one may go on.
-fn take_turns(
+fn take_turns<R: Read, W: Write>(
     wanted: u8,
-    input: i32,
+    input: &mut R,
+    output: &mut W,
     text: &mut [u8],
     out: &mut [u8],
     memory: &mut [u8],
@@ -55,7 +64,7 @@ fn take_turns(
     while 0 < left {
         let stage = session.stage;
         let filled = fill(input, stage, text, held, reads);
-        let turn = take_turn(wanted, session, filled, text, out, memory, ports);
+        let turn = take_turn(wanted, session, filled, output, text, out, memory, ports);
         session = turn.session;
         held = turn.held;
         reads = turn.reads;
@@ -71,17 +80,18 @@ fn turns_left(left: u64, goes_on: bool) -> u64
 }
 
 // It reads only once every complete line is taken, so that nobody waits for an answer or a picture while the program waits for more.
-fn take_turn(
+fn take_turn<W: Write>(
     wanted: u8,
     session: Session,
     filled: Filled,
+    output: &mut W,
     text: &mut [u8],
     out: &mut [u8],
     memory: &mut [u8],
     ports: &mut [u8],
 ) -> Turn {
     let fed = take_filled(wanted, session, filled, text, out, memory, ports);
-    let is_written = write_front(out, fed.written);
+    let is_written = write_front(output, out, fed.written);
     let next = fed.session;
     Turn {
         goes_on: is_written & !filled.failed & !filled.ended,
@@ -117,7 +127,7 @@ fn has_ended(stage: Stage) -> bool {
 }
 
 // A refused setup line ends the run: nothing more is read, as if the input ended there.
-fn fill(input: i32, stage: Stage, text: &mut [u8], held: usize, reads: bool) -> Filled
+fn fill<R: Read>(input: &mut R, stage: Stage, text: &mut [u8], held: usize, reads: bool) -> Filled
     ensures { take held text.new ≡ take held text.old }
 {
     if has_ended(stage) {
@@ -138,15 +148,21 @@ fn fill(input: i32, stage: Stage, text: &mut [u8], held: usize, reads: bool) -> 
 }
 
 // What is held stays in front of what is read.
-fn read_behind(input: i32, text: &mut [u8], held: usize) -> Filled
+fn read_behind<R: Read>(input: &mut R, text: &mut [u8], held: usize) -> Filled
     ensures { take held text.new ≡ take held text.old }
 {
     if held < text.len() {
-        let got = libc::read(input, &mut text[held..]);
-        Filled {
-            failed: got < 0,
-            ended: got == 0,
-            size: held + io::count(got, &text[held..]),
+        match input.read(&mut text[held..]) {
+            Ok(got) => Filled {
+                failed: false,
+                ended: got == 0,
+                size: held + got,
+            },
+            Err(_) => Filled {
+                failed: true,
+                ended: false,
+                size: held,
+            },
         }
     } else {
         Filled {
@@ -157,23 +173,10 @@ fn read_behind(input: i32, text: &mut [u8], held: usize) -> Filled
     }
 }
 
-fn write_front(out: &[u8], written: usize) -> bool {
+fn write_front<W: Write>(output: &mut W, out: &[u8], written: usize) -> bool {
     if written <= out.len() {
-        write_all(&out[..written])
+        output.write_all(&out[..written]).is_ok()
     } else {
         false
     }
-}
-
-// What one call of the system leaves is written from where it stands: `io::write_all` would copy it into a place of its own.
-fn write_all(bytes: &[u8]) -> bool {
-    let mut rest = bytes;
-    while 0 < rest.len() {
-        let size = io::count(libc::write(STDOUT_FILENO, rest), rest);
-        if size == 0 {
-            return false;
-        }
-        rest = &rest[size..];
-    }
-    true
 }

@@ -6,29 +6,30 @@ use bus::{Bus, Chassis};
 use events::Answer;
 use judgement::Event;
 use sense::setup;
+use std::io;
 use stepping::step;
 
 const DIGITS: [u8; 16] = [
     48, 49, 50, 51, 52, 53, 54, 55, 56, 57, 65, 66, 67, 68, 69, 70,
 ];
 
-fn put(b: u8) {
+fn put(rt: &impl Print, b: u8) -> io::Result<()> {
     let two = [DIGITS[(b / 16) as usize], DIGITS[(b % 16) as usize]];
-    io::write_all(1, &two);
+    rt.write_all(&two)
 }
 
 // The eighteen digits of an answer line.
-fn put_answer(answer: Answer) {
-    put(answer.refusal);
-    put(answer.phase);
-    put(answer.granted);
-    put(answer.lines);
-    put(answer.signals);
-    put(answer.status);
-    put(answer.cycles);
-    put((answer.datum / 256) as u8);
-    put((answer.datum % 256) as u8);
-    io::write_all(1, b"\n");
+fn put_answer(rt: &impl Print, answer: Answer) -> io::Result<()> {
+    put(rt, answer.refusal)?;
+    put(rt, answer.phase)?;
+    put(rt, answer.granted)?;
+    put(rt, answer.lines)?;
+    put(rt, answer.signals)?;
+    put(rt, answer.status)?;
+    put(rt, answer.cycles)?;
+    put(rt, (answer.datum / 256) as u8)?;
+    put(rt, (answer.datum % 256) as u8)?;
+    rt.write_all(b"\n")
 }
 
 // The event of a frame: kind, speaker, address and datum, of two, two, six and four digits.
@@ -42,29 +43,39 @@ fn event_of(frame: u64) -> Event {
 }
 
 // One event, answered on a line; the bus that it leaves.
-fn answered(bus: Bus, frame: u64, memory: &mut [u8], ports: &mut [u8]) -> Bus {
+fn answered(
+    rt: &impl Print,
+    bus: Bus,
+    frame: u64,
+    memory: &mut [u8],
+    ports: &mut [u8],
+) -> io::Result<Bus> {
     let stepped = step(bus, event_of(frame), memory, ports);
-    put_answer(stepped.answer);
-    stepped.bus
+    put_answer(rt, stepped.answer)?;
+    Ok(stepped.bus)
 }
 
 // The frames in turn; the bus after the last.
-fn run(start: Bus, frames: &[u64], memory: &mut [u8], ports: &mut [u8]) -> Bus {
+fn run(
+    rt: &impl Print,
+    start: Bus,
+    frames: &[u64],
+    memory: &mut [u8],
+    ports: &mut [u8],
+) -> io::Result<Bus> {
     let mut bus = start;
-    let mut i: usize = 0;
-    while i < frames.len() {
-        bus = answered(bus, frames[i], memory, ports);
-        i += 1;
+    for frame in frames {
+        bus = answered(rt, bus, *frame, memory, ports)?;
     }
-    bus
+    Ok(bus)
 }
 
-fn title(text: &[u8]) {
-    io::write_all(1, text);
-    io::write_all(1, b"\n");
+fn title(rt: &impl Print, text: &[u8]) -> io::Result<()> {
+    rt.write_all(text)?;
+    rt.write_all(b"\n")
 }
 
-fn main() {
+fn main(rt: HostRuntime) -> io::Result<()> {
     let mut memory = [0u8; 65536];
     let mut ports = [0u8; 256];
     let mut short = [0u8; 65535];
@@ -73,37 +84,50 @@ fn main() {
         fitted: 0xFFFF,
         pages: [1; 16],
     });
-    title(b"a byte is written");
-    let first = run(full.bus, &[0x081000000400EE], &mut memory, &mut ports);
-    misfit(first, &mut memory, &mut ports, &mut short, &mut few);
-    senseless(first, &mut memory, &mut ports, &mut short);
-    unchanged(first, &mut memory, &mut ports);
-    put(short[4]);
-    put(few[4]);
-    title(b" in the short buffers");
+    title(&rt, b"a byte is written")?;
+    let first = run(&rt, full.bus, &[0x081000000400EE], &mut memory, &mut ports)?;
+    misfit(&rt, first, &mut memory, &mut ports, &mut short, &mut few)?;
+    senseless(&rt, first, &mut memory, &mut ports, &mut short)?;
+    unchanged(&rt, first, &mut memory, &mut ports)?;
+    put(&rt, short[4])?;
+    put(&rt, few[4])?;
+    title(&rt, b" in the short buffers")
 }
 
 const WRITE: [u64; 1] = [0x08100000040011];
 
 // Memory and ports of wrong lengths.
-fn misfit(full: Bus, memory: &mut [u8], ports: &mut [u8], short: &mut [u8], few: &mut [u8]) -> Bus {
-    title(b"01 for the memory, and for the ports");
-    let small = run(full, &WRITE, short, ports);
-    run(full, &WRITE, memory, few)
+fn misfit(
+    rt: &impl Print,
+    full: Bus,
+    memory: &mut [u8],
+    ports: &mut [u8],
+    short: &mut [u8],
+    few: &mut [u8],
+) -> io::Result<Bus> {
+    title(rt, b"01 for the memory, and for the ports")?;
+    run(rt, full, &WRITE, short, ports)?;
+    run(rt, full, &WRITE, memory, few)
 }
 
 // A state with a phase that there is not.
-fn senseless(full: Bus, memory: &mut [u8], ports: &mut [u8], short: &mut [u8]) -> Bus {
-    title(b"01 before 02, and 02");
+fn senseless(
+    rt: &impl Print,
+    full: Bus,
+    memory: &mut [u8],
+    ports: &mut [u8],
+    short: &mut [u8],
+) -> io::Result<Bus> {
+    title(rt, b"01 before 02, and 02")?;
     let mut lost = full;
     lost.phase = 0xFF;
-    let both = run(lost, &WRITE, short, ports);
-    run(lost, &WRITE, memory, ports)
+    run(rt, lost, &WRITE, short, ports)?;
+    run(rt, lost, &WRITE, memory, ports)
 }
 
 // The refused writes left the byte.
-fn unchanged(full: Bus, memory: &mut [u8], ports: &mut [u8]) -> Bus {
-    title(b"the byte is still there");
+fn unchanged(rt: &impl Print, full: Bus, memory: &mut [u8], ports: &mut [u8]) -> io::Result<Bus> {
+    title(rt, b"the byte is still there")?;
     let read = [0x06100000040000];
-    run(full, &read, memory, ports)
+    run(rt, full, &read, memory, ports)
 }

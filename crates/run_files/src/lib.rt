@@ -3,25 +3,40 @@
 
 ghost use Rattle.std.specs.Prelude.{◌≡◌};
 
+use std::env::{Env, FillError};
+use std::fs::File;
+use std::io;
+use std::rt::Files;
+
 // It has no result, and what it prints is compared with a file.
-pub fn run_files(wanted: u8)
+pub fn run_files<R: Env + Files + Print>(rt: &R, wanted: u8)
     ensures { result ≡ tt }
 {
-    let count = os::arg_count();
     // Argument 0 is the program's own name.
-    let mut n: usize = 1;
-    while n < count {
-        run_file(wanted, n);
-        n += 1;
+    for n in 1..usize::MAX {
+        if !run_argument(rt, wanted, n) {
+            break;
+        }
     }
 }
 
-fn run_file(wanted: u8, n: usize) {
+// Whether there is such an argument. One that is no file's name is passed over.
+fn run_argument<R: Env + Files + Print>(rt: &R, wanted: u8, n: usize) -> bool {
     let mut name = [0u8; 64];
-    let size = os::arg(n, &mut name);
-    if size <= 64 {
-        let input = os::open_read(&name[..size]);
-        program::run(wanted, input);
-        libc::close(input);
+    match rt.arg(n, &mut name) {
+        Ok(size) => {
+            run_file(rt, wanted, &name[..size]);
+            true
+        }
+        Err(FillError::TooLong) => true,
+        Err(FillError::NotPresent) => false,
+    }
+}
+
+fn run_file<R: Files + Print>(rt: &R, wanted: u8, name: &[u8]) {
+    if let Ok(path) = str::from_utf8(name) {
+        if let Ok(mut input) = File::open(rt, path) {
+            program::run(wanted, &mut input, &mut io::writer(rt));
+        }
     }
 }

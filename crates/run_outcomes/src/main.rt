@@ -1,6 +1,6 @@
 // Runs the program that prints outcomes on the runs of examples/ that have outcomes there, which its arguments name.
 #![tactic(auto)]
 
-fn main() {
-    run_files::run_files(session::WANTS_OUTCOMES);
+fn main(rt: HostRuntime) {
+    run_files::run_files(&rt, session::WANTS_OUTCOMES);
 }

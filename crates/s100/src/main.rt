@@ -1,6 +1,6 @@
 // The text program.
 #![tactic(auto)]
 
-fn main() {
-    program::run(session::WANTS_ANSWERS, libc::STDIN_FILENO);
+fn main(rt: HostRuntime) {
+    program::run(session::WANTS_ANSWERS, &mut rt.stdin(), &mut rt.stdout());
 }

@@ -86,8 +86,8 @@ settle_calls = record {
 }
 
 pub outcome_calls : OutcomeCalls
-unfolding bus_in all_below or_below look every_contender shown looked settled some_card is_within first_of highest_below every_listed driving_fits standing_fits makes_sense
-    outcome_refusal settled_outcome outcome_of outcome_answers outcome_leaves
+unfolding bus_in all_below or_below look every_contender shown looked settled some_card is_within first_of highest_below every_listed driving_fits
+    standing_fits makes_sense outcome_refusal settled_outcome outcome_of outcome_answers outcome_leaves
 outcome_calls = record {
   nine_loses = refl;
   nine_answers = refl;
@@ -102,8 +102,8 @@ outcome_calls = record {
 }
 
 pub picture_calls : PictureCalls
-unfolding answer_in all_below every_listed least_below is_among list_below beside who_has signals_in strobe_of control_in digits_of pin_table moments_of levels_of driven_of
-    lines_for gathered picture_in
+unfolding answer_in all_below every_listed least_below is_among list_below beside who_has signals_in strobe_of control_in digits_of pin_table moments_of
+    levels_of driven_of lines_for gathered picture_in
 picture_calls = record {
   answers = refl;
   leaves = refl;

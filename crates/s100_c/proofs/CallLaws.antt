@@ -79,8 +79,8 @@ pub step_written : (given : Lent) (event : Event) (bus : Bus) (s : Stepped) (sta
     → ports ≡ (after (machine bus given.memory given.ports) event).ports
     → answer ≡ answer_bytes s.answer
     → (s.answer.refusal ≡ (answer_to (machine_in given) event).refusal) × (lent state memory ports answer ≡ written given event)
-step_written given event bus s state memory ports answer decoded taken stateLeft memory_left ports_left answerLeft =
-    rw (stateLeft, memory_left, ports_left, answerLeft, taken, decoded) (refl, refl)
+step_written given event bus s state memory ports answer decoded taken state_left memory_left ports_left answer_left =
+    rw (state_left, memory_left, ports_left, answer_left, taken, decoded) (refl, refl)
 
 -- ---- Setup
 

@@ -1,5 +1,5 @@
 -- What is put is read back, and what is read is put back.
-use mathlib.Core.Path.{◌≡◌, refl, sym, ap, ap₂, subst, ◌∙◌}
+use mathlib.Core.Path.{◌≡◌, refl, sym, ap, subst, ◌∙◌}
 use mathlib.Core.List.{List, [], ◌∷◌}
 use Prim.Native.Nat.{ℕ, ◌+◌, ◌*◌, ◌/◌, ◌%◌, ◌<◌, ◌≤◌}
 use native.Mathlib.Omega.{arith}
@@ -24,7 +24,7 @@ use Rattle.s100_c.specs.Layout.{
   answer_in,
 }
 use Rattle.s100_c.specs.Promises.{Whole, AreBytes, StateReadsBack, SensibleReadsBack, BytesReadBack, AnswerBytesReadBack}
-use Rattle.s100_c.proofs.LayoutLaws.{state_at, state_sized, state_long, answer_sized}
+use Rattle.s100_c.proofs.LayoutLaws.{state_at, state_sized, answer_sized}
 
 -- ---- Put, then read
 

@@ -1,6 +1,6 @@
 // The text program that prints pictures of the pins.
 #![tactic(auto)]
 
-fn main() {
-    program::run(session::WANTS_PICTURES, libc::STDIN_FILENO);
+fn main(rt: HostRuntime) {
+    program::run(session::WANTS_PICTURES, &mut rt.stdin(), &mut rt.stdout());
 }

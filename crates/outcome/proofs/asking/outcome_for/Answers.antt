@@ -6,10 +6,9 @@ use Rattle.outcome.proofs.asking.outcome_for.Goals as goal
 
 pub returns-then-refusal-eq-ACCEPTED : goal.returns-then-refusal-eq-ACCEPTED
 returns-then-refusal-eq-ACCEPTED c =
-    let from = c.args in
-    c.settled_outcome.ensures ∙ sym (decided from.bus from.card (sym c.outcome_refusal-refusal.ensures ∙ c.if-refusal-eq-ACCEPTED.true))
+    c.settled_outcome.ensures ∙ sym (decided c.args.bus c.args.card (sym c.outcome_refusal-refusal.ensures ∙ c.if-refusal-eq-ACCEPTED.true))
 
 pub returns-else-refusal-eq-ACCEPTED : goal.returns-else-refusal-eq-ACCEPTED
 returns-else-refusal-eq-ACCEPTED c =
-    let from = c.args in
-    ap Refused c.outcome_refusal-refusal.ensures ∙ sym (refused from.bus from.card (λ e. c.if-refusal-eq-ACCEPTED.false (c.outcome_refusal-refusal.ensures ∙ e)))
+    ap Refused c.outcome_refusal-refusal.ensures
+    ∙ sym (refused c.args.bus c.args.card (λ e. c.if-refusal-eq-ACCEPTED.false (c.outcome_refusal-refusal.ensures ∙ e)))

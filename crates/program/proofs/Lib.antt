@@ -1,2 +1,0 @@
--- A law that a function's proof cites.
-pub mod FrontLaws
