@@ -20,7 +20,7 @@ pub fn run_files<R: Env + Files + Print>(rt: &R, wanted: u8)
     }
 }
 
-// Whether there is such an argument. One that is no file's name is passed over.
+// Whether there is such an argument. One that is longer than 64 bytes, is no UTF-8 or names no file that can be read is passed over.
 fn run_argument<R: Env + Files + Print>(rt: &R, wanted: u8, n: usize) -> bool {
     let mut name = [0u8; 64];
     match rt.arg(n, &mut name) {

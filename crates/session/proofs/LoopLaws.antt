@@ -21,7 +21,8 @@ use Rattle.text.proofs.ReadingLaws.{answer_long}
 use Rattle.text.proofs.TakingLaws.{Going, Gone, going_start, going_on, gone_unended, gone_full, some_line, no_line, line_used, part_behind, home}
 use Rattle.text.proofs.OutcomeLines.{outcomes_long}
 use Rattle.pins.proofs.DigitLaws.{pictures_fit}
-use Rattle.session.specs.World.{World, world, outcomes_left, closing, says_by, says, most_said, answering, event_said, machine_of, setup_answer, set_up_by, fault_answer}
+use Rattle.session.specs.World.{World, world, outcomes_left, closing, says_by, says}
+use Rattle.session.specs.World.{most_said, answering, event_said, machine_of, setup_answer, set_up_by, fault_answer}
 use Rattle.session.specs.Feeding.{takes, takes_first, told}
 use Rattle.session.specs.Promises.{SaysAtMost}
 use Rattle.session.specs.declared.state.Stage.{Stage}

@@ -45,7 +45,8 @@ use Rattle.text.proofs.FaultLaws.{wrong_first, all_digits_of, by_fault}
 use Rattle.text.proofs.ReadBack.{number_back}
 use Rattle.text.proofs.ReadingLaws.{answer_long}
 use Rattle.pins.proofs.DigitLaws.{no_picture}
-use Rattle.session.specs.World.{World, world, outcomes_left, closing, says, turns, says_by, turns_by, set_up_by, setup_answer, fault_answer, after_event, fresh_world}
+use Rattle.session.specs.World.{World, world, outcomes_left, closing, says, turns}
+use Rattle.session.specs.World.{says_by, turns_by, set_up_by, setup_answer, fault_answer, after_event, fresh_world}
 use Rattle.session.specs.Output.{answers}
 use Rattle.session.specs.Promises.{length_line, character_line, page_line, EventTakesItsStep, WrongLineLengthAnswers, WrongCharacterAnswers}
 use Rattle.session.specs.Promises.{number_said, LineNumbered, LineNumbers}

@@ -1,5 +1,6 @@
 -- What is promised of a run of the text program. The proof of each stands in proofs/ under its name in lower case, with underscores.
-use Rattle.std.specs.Prelude.{ℕ, ◌+◌, ◌-◌, ◌*◌, ◌<◌, ◌≤◌, ◌≡◌, ◌⊎◌, ◌↔◌, true, false, cond, ◌&&◌, List, [], ◌∷◌, ◌++◌, eqb, length, get_or, take, drop, replicate}
+use Rattle.std.specs.Prelude.{ℕ, ◌+◌, ◌-◌, ◌*◌, ◌<◌, ◌≤◌, ◌≡◌, ◌⊎◌, ◌↔◌, true, false}
+use Rattle.std.specs.Prelude.{cond, ◌&&◌, List, [], ◌∷◌, ◌++◌, eqb, length, get_or, take, drop, replicate}
 use Rattle.words.specs.Among.{is_among}
 use Rattle.bus.specs.Refusal as Refusal
 use Rattle.bus.specs.Sense.{makes_sense}
@@ -18,7 +19,8 @@ use Rattle.text.specs.Reading.{held_of}
 use Rattle.text.specs.Chunks.{whole_text}
 use Rattle.pins.specs.Picture.{pictures_of}
 use Rattle.session.specs.World.{World, world, machine_of, closing, says, turns, most_said, set_up_by, fresh_world}
-use Rattle.session.specs.Feeding.{takes, has_room, feed_refusal, fed_of, text_left, out_left, world_left, finished_of, finished_text, finished_out, finished_world}
+use Rattle.session.specs.Feeding.{takes, has_room, feed_refusal, fed_of, text_left}
+use Rattle.session.specs.Feeding.{out_left, world_left, finished_of, finished_text, finished_out, finished_world}
 use Rattle.session.specs.Output.{answers, output, ran_in}
 use Rattle.session.specs.declared.state.Stage.{Stage}
 use Rattle.session.specs.declared.state.Stage.TheVariants.{Awaiting, Running, Ended}
