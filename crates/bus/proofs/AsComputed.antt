@@ -66,7 +66,8 @@ zero_and_own_bits = record {
 }
 
 pub out_of_turn : OutOfTurn
-unfolding all_below or_below look every_contender shown looked settled after_look some_card is_within after_looks_of every_listed driving_fits standing_fits makes_sense
+unfolding all_below or_below look every_contender shown looked settled after_look some_card is_within after_looks_of every_listed driving_fits
+    standing_fits makes_sense
 out_of_turn = record {
   request_nobody = refl;
   request_unfitted = refl;
@@ -89,7 +90,8 @@ pub numbers : Numbers
 numbers = record { low = refl; high = refl; of_lines = refl; none = refl; own = refl }
 
 pub sense_cases : SenseCases
-unfolding all_below or_below look every_contender shown looked settled after_look some_card is_within after_looks_of every_listed driving_fits standing_fits makes_sense
+unfolding all_below or_below look every_contender shown looked settled after_look some_card is_within after_looks_of every_listed driving_fits
+    standing_fits makes_sense
 sense_cases = record {
   at_rest = refl;
   contending = refl;

@@ -67,7 +67,8 @@ module _ (bus : Bus) (cards : List ℕ) where
   sometime : settle_refusal bus cards ≡ 0 → never_settles bus cards ≡ false
   sometime e = go (true_or_false (never_settles bus cards)) (eqb (list_refusal bus cards) 0) refl
     where
-      go : (never_settles bus cards ≡ true) ⊎ (never_settles bus cards ≡ false) → (b : Bool) → eqb (list_refusal bus cards) 0 ≡ b → never_settles bus cards ≡ false
+      go : (never_settles bus cards ≡ true) ⊎ (never_settles bus cards ≡ false) → (b : Bool) → eqb (list_refusal bus cards) 0 ≡ b → never_settles
+          bus cards ≡ false
       go (inr f) b q = f
       go (inl t) true q =
           let eight : settle_refusal bus cards ≡ 8 = judged bus cards ∙ rw (q, t) in

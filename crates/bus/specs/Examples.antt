@@ -164,7 +164,8 @@ pub record OtherPages : Type 0 where
 
 -- The refusals as 01 numbers them, and the place of nobody.
 pub record Numbers : Type 0 where
-  pub low : Refusal.accepted ∷ Refusal.wrong_buffers ∷ Refusal.senseless ∷ Refusal.malformed ∷ Refusal.nobody_named ∷ Refusal.not_fitted ∷ Refusal.wrong_phase ∷ []
+  pub low : Refusal.accepted ∷ Refusal.wrong_buffers ∷ Refusal.senseless ∷ Refusal.malformed ∷ Refusal.nobody_named ∷ Refusal.not_fitted ∷
+      Refusal.wrong_phase ∷ []
       ≡ 0x00 ∷ 0x01 ∷ 0x02 ∷ 0x03 ∷ 0x04 ∷ 0x05 ∷ 0x06 ∷ []
   pub high : Refusal.not_its_turn ∷ Refusal.unsettled ∷ Refusal.odd_word ∷ Refusal.absent ∷ Refusal.bad_page ∷ []
       ≡ 0x07 ∷ 0x08 ∷ 0x09 ∷ 0x0A ∷ 0x0B ∷ []

@@ -1,5 +1,5 @@
 -- What is promised of the bus and its methods (01, "State and phases", "Looking and settling"). The proof of each
--- stands in proofs/ under its name in lower case, with hyphens.
+-- stands in proofs/ under its name in lower case, with underscores.
 use Rattle.std.specs.Prelude.{ℕ, ◌<◌, ◌≤◌, ◌≡◌, ◌↔◌, true, false, length, get_or, take, replicate}
 use mathlib.Core.List.{List, [], ◌∷◌, ◌++◌, flatten}
 use Rattle.words.specs.First.{applies_as}

@@ -1,5 +1,5 @@
 -- What is promised of the step of one event (01, "Events", "Bytes, words, status", "Refusals and their order"). The proof of each
--- stands in proofs/ under its name in lower case, with hyphens.
+-- stands in proofs/ under its name in lower case, with underscores.
 use Rattle.std.specs.Prelude.{ℕ, ◌+◌, ◌/◌, ◌<◌, ◌≤◌, ◌≡◌, ◌⊎◌, ◌↔◌, true, false, cond, List, length, get_or, set}
 use Rattle.words.specs.First.{applies_as}
 use Rattle.lines.specs.Look.{look}

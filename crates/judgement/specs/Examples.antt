@@ -40,7 +40,8 @@ pub record Columns : Type 0 where
 pub record StepColumn : Type 0 where
   pub asking : (row_of 0x01).step ∷ (row_of 0x02).step ∷ (row_of 0x03).step ∷ (row_of 0x04).step ∷ (row_of 0x05).step ∷ []
       ≡ Step.Request ∷ Step.Look ∷ Step.Acknowledge ∷ Step.BeginTransferOne ∷ Step.TakeBus ∷ []
-  pub cycles : (row_of 0x06).step ∷ (row_of 0x07).step ∷ (row_of 0x08).step ∷ (row_of 0x09).step ∷ (row_of 0x0A).step ∷ (row_of 0x0B).step ∷ (row_of 0x0C).step ∷ []
+  pub cycles : (row_of 0x06).step ∷ (row_of 0x07).step ∷ (row_of 0x08).step ∷ (row_of 0x09).step ∷ (row_of 0x0A).step ∷ (row_of 0x0B).step ∷
+      (row_of 0x0C).step ∷ []
       ≡ replicate 7 Step.Cycle
   pub ending : (row_of 0x0D).step ∷ (row_of 0x0E).step ∷ (row_of 0x0F).step ∷ [] ≡ Step.BeginTransferTwo ∷ Step.GiveBack ∷ Step.Reset ∷ []
 

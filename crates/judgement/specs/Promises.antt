@@ -1,5 +1,5 @@
 -- What is promised of the judgement (01, "Events", "Refusals and their order"). The proof of each
--- stands in proofs/ under its name in lower case, with hyphens.
+-- stands in proofs/ under its name in lower case, with underscores.
 use Rattle.std.specs.Prelude.{ℕ, ◌/◌, ◌≤◌, ◌≡◌, ◌⊎◌, ◌↔◌, false, ◌&&◌, ◌||◌, List, eqb, leb, ltb, length, get_or}
 use Rattle.bus.specs.Refusal as Refusal
 use Rattle.bus.specs.declared.state.Bus.{Bus}

@@ -1,5 +1,5 @@
 -- What is promised of the priority lines: once for any number w of lines, and then for the four of this bus. The proof of each stands in proofs/
--- under its name in lower case, with hyphens: that of RoundsSettle is rounds_settle.
+-- under its name in lower case, with underscores: that of RoundsSettle is rounds_settle; where a definition has that name, `_holds` stands behind it.
 use Rattle.std.specs.Prelude.{ℕ, ◌^◌, ◌<◌, ◌≤◌, ◌≡◌, ◌↔◌, Bool, true, false, cond, not, ◌&&◌, ◌||◌, leb, eqb, length, get_or}
 use mathlib.Core.List.{List, [], ◌∷◌, ◌++◌, flatten}
 use Rattle.words.specs.Bits.{bit_at}

@@ -1,5 +1,5 @@
 -- What is promised of byte and word cycles, for a memory of any length. The proof of each stands in proofs/ under its name in lower case, with
--- hyphens: that of SameBytes is same-bytes.
+-- underscores: that of SameBytes is same_bytes.
 use Rattle.std.specs.Prelude.{ℕ, ◌+◌, ◌%◌, ◌<◌, ◌≤◌, ◌≡◌, ◌⊎◌, ◌↔◌, true, cond, List, ◌++◌, eqb, length, get_or, take, drop}
 use Rattle.memory.specs.declared.Moved.{Moved}
 use Rattle.memory.specs.declared.Slave.{Slave}

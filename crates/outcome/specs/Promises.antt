@@ -1,4 +1,4 @@
--- What is promised of the outcome for a card (02, CR 4). The proof of each stands in proofs/ under its name in lower case, with hyphens.
+-- What is promised of the outcome for a card (02, CR 4). The proof of each stands in proofs/ under its name in lower case, with underscores.
 use Rattle.std.specs.Prelude.{ℕ, ◌<◌, ◌≤◌, ◌≡◌, ◌↔◌, true, false, List, [], ◌∷◌, get_or}
 use Rattle.words.specs.Bits.{bit_at}
 use Rattle.words.specs.Among.{is_among}

@@ -1,4 +1,4 @@
--- What is promised of signals and control outputs. The proof of each stands in proofs/ under its name in lower case, with hyphens.
+-- What is promised of signals and control outputs. The proof of each stands in proofs/ under its name in lower case, with underscores.
 use Rattle.std.specs.Prelude.{ℕ, ◌<◌, ◌≤◌, ◌≡◌, ◌⊎◌, Bool, true, false, cond, not, ◌&&◌, [], ◌∷◌, eqb}
 use Rattle.words.specs.Among.{is_among}
 use Rattle.phases.specs.Phase as Phase

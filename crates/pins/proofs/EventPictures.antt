@@ -96,7 +96,8 @@ disabling_on_pins = disabling_on_holds
 pub one_picture : (text : List ℕ) (x : Moment) (Shows : List ℕ → Type 0) → text ≡ lines_for (x ∷ []) → Shows (picture_of x) → OneLine text Shows
 one_picture text x Shows is shows = record { line = picture_of x; is = is ∙ one_line x; digits = (fifty_digits x).0; shows = shows }
 
-pub two_pictures : (text : List ℕ) (x y : Moment) (First Second : List ℕ → Type 0) → text ≡ lines_for (x ∷ y ∷ []) → First (picture_of x) → Second (picture_of y)
+pub two_pictures : (text : List ℕ) (x y : Moment) (First Second : List ℕ → Type 0) → text ≡ lines_for (x ∷ y ∷ []) → First (picture_of x) → Second
+    (picture_of y)
     → TwoLines text First Second
 two_pictures text x y First Second is first second = record {
   first = picture_of x;

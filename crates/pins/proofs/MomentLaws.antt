@@ -65,7 +65,8 @@ word_signal : (weight : ℕ)
 word_signal weight e phase w h word =
     let two = both_of (agree (is_on weight (signals_in phase + 0)) (is_on weight 0) && agree (is_on weight (signals_in phase + 0x80)) (is_on weight 0x80))
     (agree (is_on weight (signals_in phase + 0xC0)) (is_on weight 0xC0)) (all_at _ 6 e phase h) in
-    let one = both_of (agree (is_on weight (signals_in phase + 0)) (is_on weight 0)) (agree (is_on weight (signals_in phase + 0x80)) (is_on weight 0x80)) two.0 in
+    let one = both_of (agree (is_on weight (signals_in phase + 0)) (is_on weight 0)) (agree (is_on weight (signals_in phase + 0x80)) (is_on weight
+    0x80)) two.0 in
     ⊎_elim (λ is. rw is (agreed _ _ one.0)) (⊎_elim (λ is. rw is (agreed _ _ one.1)) (λ is. rw is (agreed _ _ two.1))) word
 
 no_sixtn : (phase : ℕ) → phase < 6 → is_on SIXTN (signals_in phase + 0) ≡ false
@@ -290,7 +291,8 @@ module _ (x : Moment) where
       → NoCycle (picture_of x)
   unfolding all_below every_listed is_among beside pin_table signals_in strobe_of control_in
   no_cycle phase kind fits still cyc out into = record {
-    dbin = pin 78 refl ∙ outputs fits pDBIN (λ p k. is_among k (0x06 ∷ 0x07 ∷ 0x09 ∷ 0x0B ∷ [])) refl ∙ (neither_of (is_reading kind) (is_writing kind) still).0;
+    dbin = pin 78 refl ∙ outputs fits pDBIN (λ p k. is_among k (0x06 ∷ 0x07 ∷ 0x09 ∷ 0x0B ∷ [])) refl ∙ (neither_of (is_reading kind) (is_writing
+        kind) still).0;
     wr = pin 77 refl ∙ ap not (outputs fits pWR (λ p k. is_among k (0x08 ∷ 0x0A ∷ 0x0C ∷ [])) refl ∙ (neither_of (is_reading kind) (is_writing kind) still).1);
     sixtn = pin 60 refl ∙ ap (λ (s : ℕ). not (is_on SIXTN s)) fits.signals ∙ ap not (no_sixtn phase fits.phase_known);
     address = each_driven not address_pins refl ∙ rw cyc refl;

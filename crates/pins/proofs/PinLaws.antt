@@ -63,7 +63,8 @@ module _ (test : Pin → Bool) where
       bits : (bit_at (four_bits (test (pin_at (four 1))) (test (pin_at (four 2))) (test (pin_at (four 3))) (test (pin_at (four 4)))) 3 ≡ test (pin_at (four 1)))
           × ((bit_at (four_bits (test (pin_at (four 1))) (test (pin_at (four 2))) (test (pin_at (four 3))) (test (pin_at (four 4)))) 2 ≡ test (pin_at (four 2)))
           × ((bit_at (four_bits (test (pin_at (four 1))) (test (pin_at (four 2))) (test (pin_at (four 3))) (test (pin_at (four 4)))) 1 ≡ test (pin_at (four 3)))
-          × (bit_at (four_bits (test (pin_at (four 1))) (test (pin_at (four 2))) (test (pin_at (four 3))) (test (pin_at (four 4)))) 0 ≡ test (pin_at (four 4)))))
+          × (bit_at (four_bits (test (pin_at (four 1))) (test (pin_at (four 2))) (test (pin_at (four 3))) (test (pin_at (four 4)))) 0 ≡ test
+          (pin_at (four 4)))))
       bits = four_in_place (test (pin_at (four 1))) (test (pin_at (four 2))) (test (pin_at (four 3))) (test (pin_at (four 4)))
 
       go : (i : ℕ) → i < 4

@@ -49,7 +49,16 @@ pub record Standing : Type 0 where
   -- transfer two: pHLDA high, HOLD high again, three disable lines low
   pub transfer_two : pictures_of (event_of 0x0D 10 0 0) (answered 5 10 0 0x1E 0 0 0) ≡ line_of 0x000420C000000 0x390004800000 0x000466C000000 0x390105C00000
   -- a refused event has none
-  pub refused : pictures_of (event_of 0x0F 0 0 0) (record { refusal = 6; phase = 0; granted = 0; lines = 0; signals = 0; status = 0; cycles = 0; datum = 0 }) ≡ []
+  pub refused : pictures_of (event_of 0x0F 0 0 0) (record {
+    refusal = 6;
+    phase = 0;
+    granted = 0;
+    lines = 0;
+    signals = 0;
+    status = 0;
+    cycles = 0;
+    datum = 0;
+  }) ≡ []
 
 -- ---- Cycles
 
@@ -67,7 +76,8 @@ pub record Cycling : Type 0 where
   pub split_again : pictures_of (event_of 0x09 0x10 0x00AA8A 0) (answered 0 0xFF 0 0x80 0x01 2 0xC539)
       ≡ line_of 0x0004668340A20 0x390004D2A0A8 0x0007E6CFC8FE0 0x3FF105FFE3E8 ++ line_of 0x0004668340420 0x3D0004F2A328 0x0007E6CFC8FE0 0x3FF105FFE3E8
   -- the odd byte of these alone: as the second of the two lines
-  pub read : pictures_of (event_of 0x06 0x10 0x00AA8B 0) (answered 0 0xFF 0 0 0x01 1 0x39) ≡ line_of 0x0004668340420 0x3D0004F2A328 0x0007E6CFC8FE0 0x3FF105FFE3E8
+  pub read : pictures_of (event_of 0x06 0x10 0x00AA8B 0) (answered 0 0xFF 0 0 0x01 1 0x39) ≡ line_of 0x0004668340420 0x3D0004F2A328 0x0007E6CFC8FE0
+      0x3FF105FFE3E8
   -- 5D written at 00C721, and fetched from there
   pub write : pictures_of (event_of 0x08 0x10 0x00C721 0x5D) (answered 0 0xFF 0 0 0x10 1 0x5D)
       ≡ line_of 0x000466895D000 0x3D0104215800 0x0007E6CFFF1E0 0x3FF105FFFC08

@@ -1,4 +1,4 @@
--- What is promised of pictures (02, CR 1). The proof of each stands in proofs/ under its name in lower case, with hyphens.
+-- What is promised of pictures (02, CR 1). The proof of each stands in proofs/ under its name in lower case, with underscores.
 use Rattle.std.specs.Prelude.{ℕ, ◌+◌, ◌-◌, ◌*◌, ◌/◌, ◌%◌, ◌<◌, ◌≤◌, ◌≡◌, ◌⊎◌, Bool, true, false, cond, not, ◌&&◌, ◌||◌, List, [], ◌∷◌, ◌++◌, length, get_or, take, drop}
 use Rattle.words.specs.Bits.{bit_at}
 use Rattle.words.specs.Among.{is_among, every_listed, beside}

@@ -83,7 +83,8 @@ looks_keep : (bus : Bus) → bus.phase ≡ Phase.arbitration → (looks : List �
 looks_keep bus phase looks = let same = looks_drive bus phase looks in (ap (λ (b : Bus). b.phase) same ∙ phase, ap (λ (b : Bus). b.contenders) same)
 
 -- and so of a whole run
-pub run_looks : (calls : List Call) (bus : Bus) → bus.phase ≡ Phase.arbitration → GoesOn bus calls → after_all bus calls ≡ after_looks_of bus (looks_in bus calls)
+pub run_looks : (calls : List Call) (bus : Bus) → bus.phase ≡ Phase.arbitration → GoesOn bus calls → after_all bus calls ≡ after_looks_of bus
+    (looks_in bus calls)
 unfolding after_all accepted_of speakers_of after_looks_of
 run_looks [] bus phase on = refl
 run_looks (c ∷ calls) bus phase on =

@@ -86,7 +86,11 @@ three_rounds_holds memory ports right = record {
   one = round_on memory ports right [] round_one refl;
   two = round_on memory ports right round_one round_two refl;
   three = round_on memory ports right (round_one ++ round_two) round_three refl;
-  goes_on = record { no_grant = none_on memory ports right Kind.acknowledge three_rounds refl; no_reset = none_on memory ports right Kind.reset three_rounds refl };
+  goes_on = record {
+    no_grant = none_on memory ports right Kind.acknowledge three_rounds refl;
+    no_reset = none_on memory ports right Kind.reset
+        three_rounds refl;
+  };
   refusals = refusals_on_the_bus memory ports right three_rounds four_nine_ten four_nine_ten_sense;
   lines = ap lines_of (ends memory ports right three_rounds);
   nobodys = ap (λ (b : Bus). card_in four_nine_ten.contenders (lines_of b)) (ends memory ports right three_rounds);
@@ -156,7 +160,8 @@ module _ (m : Machine) (rest : AtRest m) where
 
 pub marked : Marked
 unfolding all_below or_below look every_contender shown looked settled some_card is_within is_among first_of sound_refusal beside has_beside
-    bus_run looks every_listed driving_fits standing_fits makes_sense least_below after_looks_of settled_after leading_looks never_settles settle_refusal settle_of
+    bus_run looks every_listed driving_fits standing_fits makes_sense least_below after_looks_of settled_after leading_looks never_settles
+    settle_refusal settle_of
 marked = record {
   starts = (refl, (refl, refl));
   m1 = lines_after first 12 refl;

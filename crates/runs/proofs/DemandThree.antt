@@ -84,7 +84,8 @@ module _ (bus : Bus) (r₁ r₂ r₃ r₄ further : List Call) where
       (looks_append bus (r₁ ++ r₂ ++ r₃) r₄
       ∙ ap (λ (l : List ℕ). l ++ looks_in (after_all bus (r₁ ++ r₂ ++ r₃)) r₄)
       (looks_append bus (r₁ ++ r₂) r₃ ∙ ap (λ (l : List ℕ). l ++ looks_in (after_all bus (r₁ ++ r₂)) r₃) (looks_append bus r₁ r₂)))
-      ∙ joined (looks_in bus r₁) (looks_in (after_all bus r₁) r₂) (looks_in (after_all bus (r₁ ++ r₂)) r₃) (looks_in (after_all bus (r₁ ++ r₂ ++ r₃)) r₄) in_rest
+      ∙ joined (looks_in bus r₁) (looks_in (after_all bus r₁) r₂) (looks_in (after_all bus (r₁ ++ r₂)) r₃) (looks_in (after_all bus (r₁ ++ r₂ ++
+      r₃)) r₄) in_rest
 
 pub four_rounds_of_events : FourRoundsOfEvents
 four_rounds_of_events bus here card best r₁ r₂ r₃ r₄ further on e₁ e₂ e₃ e₄ = record {

@@ -1,5 +1,5 @@
 -- What is promised of runs of events (the third demand, and 01, "Marked for proof"). The proof of each
--- stands in proofs/ under its name in lower case, with hyphens.
+-- stands in proofs/ under its name in lower case, with underscores.
 use Rattle.std.specs.Prelude.{ℕ, ◌<◌, ◌≤◌, ◌≡◌, ◌↔◌, true, false, List, [], ◌∷◌, ◌++◌, length, get_or}
 use Rattle.lines.specs.Arbitration.{Contender, Highest}
 use Rattle.phases.specs.Phase as Phase

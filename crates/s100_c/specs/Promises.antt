@@ -1,4 +1,4 @@
--- What is promised of the C face. The proof of each stands in proofs/ under its name in lower case, with hyphens.
+-- What is promised of the C face. The proof of each stands in proofs/ under its name in lower case, with underscores.
 use Rattle.std.specs.Prelude.{ℕ, ◌<◌, ◌≡◌, true, false, List, [], ◌∷◌, length, get_or}
 use Rattle.std.proofs.lemmas.List.Edits.{sets}
 use Rattle.bus.specs.Refusal.{wrong_length}

@@ -25,7 +25,8 @@ use Rattle.session.specs.Examples.{
 }
 
 pub setup_outputs : SetupOutputs
-unfolding beside signals_in every_listed all_below least_below or_below shown number_after digits_of lines_after last_line answers_to says_by turns_by fresh_world
+unfolding beside signals_in every_listed all_below least_below or_below shown number_after digits_of lines_after last_line answers_to says_by
+    turns_by fresh_world
 setup_outputs = record {
   accepted = refl;
   unended = refl;
@@ -40,16 +41,20 @@ setup_outputs = record {
 }
 
 pub bad_line_outputs : BadLineOutputs
-unfolding beside signals_in every_listed all_below least_below or_below shown number_after digits_of lines_after last_line answers_to says_by turns_by fresh_world
+unfolding beside signals_in every_listed all_below least_below or_below shown number_after digits_of lines_after last_line answers_to says_by
+    turns_by fresh_world
 bad_line_outputs = record { each = refl; misspelt = refl; returns = refl; cut = refl }
 
 pub picture_outputs : PictureOutputs
-unfolding beside signals_in every_listed all_below least_below or_below shown number_after digits_of lines_after last_line answers_to says_by turns_by fresh_world
+unfolding beside signals_in every_listed all_below least_below or_below shown number_after digits_of lines_after last_line answers_to says_by
+    turns_by fresh_world
 picture_outputs = record { set_up = refl; bad = refl; misspelt = refl; refused = refl; refused_lower = refl }
 
 pub outcome_outputs : OutcomeOutputs
-unfolding beside signals_in every_listed all_below least_below or_below first_of every_contender shown looked settled some_card is_within driving_fits standing_fits
-    makes_sense outcome_refusal settled_outcome outcome_of number_after digits_of lines_after last_line outcomes_below answers_to outcomes_left says_by turns_by fresh_world
+unfolding beside signals_in every_listed all_below least_below or_below first_of every_contender shown looked settled some_card is_within
+    driving_fits standing_fits
+    makes_sense outcome_refusal settled_outcome outcome_of number_after digits_of lines_after last_line outcomes_below answers_to outcomes_left
+    says_by turns_by fresh_world
 outcome_outputs = record { refused = refl; unended = refl; blank = refl; empty = refl; free = refl }
 
 pub wanted_numbers : WantedNumbers

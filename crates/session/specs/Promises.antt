@@ -1,4 +1,4 @@
--- What is promised of a run of the text program. The proof of each stands in proofs/ under its name in lower case, with hyphens.
+-- What is promised of a run of the text program. The proof of each stands in proofs/ under its name in lower case, with underscores.
 use Rattle.std.specs.Prelude.{ℕ, ◌+◌, ◌-◌, ◌*◌, ◌<◌, ◌≤◌, ◌≡◌, ◌⊎◌, ◌↔◌, true, false, cond, ◌&&◌, List, [], ◌∷◌, ◌++◌, eqb, length, get_or, take, drop, replicate}
 use Rattle.words.specs.Among.{is_among}
 use Rattle.bus.specs.Refusal as Refusal

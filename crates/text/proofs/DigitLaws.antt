@@ -124,7 +124,8 @@ digits_sized (field ∷ fields) a = (digits_long field.0 (field.1 a), digits_siz
 
 -- where a byte is no digit, not all are
 pub not_all : (line : List ℕ) (i : ℕ) → i < length line → is_digit (get_or line i 0) ≡ false → false ≡ every_listed is_digit line
-not_all line i h e = ⊎_elim (λ all. absurd (false≢true (sym e ∙ every_at is_digit line all i h))) (λ none. sym none) (true_or_false (every_listed is_digit line))
+not_all line i h e = ⊎_elim (λ all. absurd (false≢true (sym e ∙ every_at is_digit line all i h))) (λ none. sym none) (true_or_false (every_listed
+    is_digit line))
 
 -- digits from a place on, one by one
 pub page_next : (line pages : List ℕ) (at i : ℕ) → i < length pages → at + i < length line → take i pages ≡ map value_of (digits_from at i line)

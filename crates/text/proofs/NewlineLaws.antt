@@ -90,7 +90,8 @@ whole_line line size =
     ⊎_elim (λ has. absurd (omega (arith, size, line_within line has))) (unended line) (true_or_false (has_newline line))
 
 -- a text with a newline at a place has its first line before it
-pub first_before : (k : ℕ) (text : List ℕ) → k < length text → get_or text k 0 ≡ newline → (has_newline text ≡ true) × (first_line (take k text) ≡ first_line text)
+pub first_before : (k : ℕ) (text : List ℕ) → k < length text → get_or text k 0 ≡ newline → (has_newline text ≡ true) × (first_line (take k text) ≡
+    first_line text)
 unfolding first_line has_newline
 first_before k [] h ends = absurd (omega (arith, h))
 first_before zero (b ∷ text) h ends = rw (eq-eqb b newline ends) (refl, refl)

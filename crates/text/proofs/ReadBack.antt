@@ -239,7 +239,10 @@ number_back a fits = ap (λ (b : Answer). b.refusal) (answer_parts_holds a) ∙ 
 
 pub answer_reads_back : AnswerReadsBack
 answer_reads_back a = (
-  (right_digits (total answer_widths) (answer_digits a) (laid_long a answer_parts (digits_sized answer_fields a)) (fields_digits answer_fields a), answer_long a),
+  (
+    right_digits (total answer_widths) (answer_digits a) (laid_long a answer_parts (digits_sized answer_fields a)) (fields_digits answer_fields a),
+    answer_long a,
+  ),
   λ fits.
       answer_parts_holds a
       ∙ rw (

@@ -182,7 +182,8 @@ module _ {S : Type 0} (r : Reader S) where
         (λ (stops : takes_line r room text ≡ false).
         rw (none_within (suc n) room s text stops) (
         λ fits.
-        ⊎_elim (λ has. absurd (false≢true (sym stops ∙ takes_line_holds room text has (omega (arith, fits))))) (λ none. none) (true_or_false (has_newline text))))
+        ⊎_elim (λ has. absurd (false≢true (sym stops ∙ takes_line_holds room text has (omega (arith, fits))))) (λ none. none) (true_or_false
+        (has_newline text))))
         (true_or_false (takes_line r room text))
 
     pub all_ended : (room : ℕ) (s : S) (text : List ℕ) → r.most ≤ room - length (taken_off r room s text).said

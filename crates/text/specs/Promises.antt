@@ -1,4 +1,4 @@
--- What is promised of digits, lines and frames. The proof of each stands in proofs/ under its name in lower case, with hyphens.
+-- What is promised of digits, lines and frames. The proof of each stands in proofs/ under its name in lower case, with underscores.
 use Rattle.std.specs.Prelude.{ℕ, ◌+◌, ◌-◌, ◌*◌, ◌^◌, ◌<◌, ◌≤◌, ◌≡◌, ◌⊎◌, ◌↔◌, true, false, List, [], ◌∷◌, ◌++◌, map, length, get_or, take, drop}
 use Rattle.bus.specs.Refusal.{accepted}
 use Rattle.bus.specs.declared.state.Bus.{Bus}

@@ -1,4 +1,4 @@
--- What is promised of the words that a reader could take in two ways. The proof of each stands in proofs/ under its name in lower case, with hyphens.
+-- What is promised of the words that a reader could take in two ways. The proof of each stands in proofs/ under its name in lower case, with underscores.
 use Rattle.std.specs.Prelude.{ℕ, ◌<◌, ◌≡◌, ◌↔◌, Bool, true, false, List}
 use Rattle.words.specs.First.{Reason, first_of, applies_as, ascends_from, least_below, highest_below}
 

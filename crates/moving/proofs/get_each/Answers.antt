@@ -22,17 +22,20 @@ returns-then-pair-gt1 c =
 
 pub overflow_mul-result : goal.overflow_mul-result
 overflow_mul-result c =
-    let both_bytes : OneByte c.byte_read-even.result × OneByte c.byte_read-odd.result = let known = c.shared_slice_known-1 in (byte_read_one _ _ _ c.byte_read-even.ensures (known.given _).fits, byte_read_one _ _ _ c.byte_read-odd.ensures (known.given _).fits) in
+    let both_bytes : OneByte c.byte_read-even.result × OneByte c.byte_read-odd.result = let known = c.shared_slice_known-1 in
+    (byte_read_one _ _ _ c.byte_read-even.ensures (known.given _).fits, byte_read_one _ _ _ c.byte_read-odd.ensures (known.given _).fits) in
     omega (arith, both_bytes)
 
 pub overflow_add-result : goal.overflow_add-result
 overflow_add-result c =
-    let both_bytes : OneByte c.byte_read-even.result × OneByte c.byte_read-odd.result = let known = c.shared_slice_known-1 in (byte_read_one _ _ _ c.byte_read-even.ensures (known.given _).fits, byte_read_one _ _ _ c.byte_read-odd.ensures (known.given _).fits) in
+    let both_bytes : OneByte c.byte_read-even.result × OneByte c.byte_read-odd.result = let known = c.shared_slice_known-1 in
+    (byte_read_one _ _ _ c.byte_read-even.ensures (known.given _).fits, byte_read_one _ _ _ c.byte_read-odd.ensures (known.given _).fits) in
     omega (arith, both_bytes)
 
 pub overflow_add-result-then-pair-gt1 : goal.overflow_add-result-then-pair-gt1
 overflow_add-result-then-pair-gt1 c =
-    let both_bytes : OneByte c.byte_read-even.result × OneByte c.byte_read-odd.result = let known = c.shared_slice_known-1 in (byte_read_one _ _ _ c.byte_read-even.ensures (known.given _).fits, byte_read_one _ _ _ c.byte_read-odd.ensures (known.given _).fits) in
+    let both_bytes : OneByte c.byte_read-even.result × OneByte c.byte_read-odd.result = let known = c.shared_slice_known-1 in
+    (byte_read_one _ _ _ c.byte_read-even.ensures (known.given _).fits, byte_read_one _ _ _ c.byte_read-odd.ensures (known.given _).fits) in
     omega (arith, both_bytes)
 
 pub returns-else-pair-gt1 : goal.returns-else-pair-gt1

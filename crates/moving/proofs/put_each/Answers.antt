@@ -21,12 +21,15 @@ both_bytes c =
 pub returns-then-pair-gt1 : goal.returns-then-pair-gt1
 returns-then-pair-gt1 c =
     let v = c.args.datum in
-    let here = lt-ltb 1 _ c.if-pair-gt1.true in record { moved = ap₂ together
+    let here = lt-ltb 1 _ c.if-pair-gt1.true in record {
+      moved = ap₂ together
           c.byte_write-even.ensures.moved
           (c.byte_write-odd.ensures.moved ∙ ap (λ (l : List ℕ). byte_write l 1 (odd_half v)) c.byte_write-even.ensures.left)
-          ∙ sym (word_write_serial _ 0 _ here); left = c.byte_write-odd.ensures.left
+          ∙ sym (word_write_serial _ 0 _ here);
+      left = c.byte_write-odd.ensures.left
           ∙ ap (λ (l : List ℕ). after_byte_write l 1 (odd_half v)) c.byte_write-even.ensures.left
-          ∙ sym (after_word_is _ 0 _ _ here) }
+          ∙ sym (after_word_is _ 0 _ _ here);
+    }
 
 pub returns-else-pair-gt1 : goal.returns-else-pair-gt1
 returns-else-pair-gt1 c =
@@ -35,15 +38,18 @@ returns-else-pair-gt1 c =
 
 pub overflow_mul-result : goal.overflow_mul-result
 overflow_mul-result c =
-    let both_bytes : OneByte c.byte_write-even.result × OneByte c.byte_write-odd.result = let sixteen-bits = c.ranges.datum in (byte_write_one _ _ _ _ c.byte_write-even.ensures.moved (omega arith), byte_write_one _ _ _ _ c.byte_write-odd.ensures.moved (omega arith)) in
+    let both_bytes : OneByte c.byte_write-even.result × OneByte c.byte_write-odd.result = let sixteen-bits = c.ranges.datum in
+    (byte_write_one _ _ _ _ c.byte_write-even.ensures.moved (omega arith), byte_write_one _ _ _ _ c.byte_write-odd.ensures.moved (omega arith)) in
     omega (arith, both_bytes)
 
 pub overflow_add-result : goal.overflow_add-result
 overflow_add-result c =
-    let both_bytes : OneByte c.byte_write-even.result × OneByte c.byte_write-odd.result = let sixteen-bits = c.ranges.datum in (byte_write_one _ _ _ _ c.byte_write-even.ensures.moved (omega arith), byte_write_one _ _ _ _ c.byte_write-odd.ensures.moved (omega arith)) in
+    let both_bytes : OneByte c.byte_write-even.result × OneByte c.byte_write-odd.result = let sixteen-bits = c.ranges.datum in
+    (byte_write_one _ _ _ _ c.byte_write-even.ensures.moved (omega arith), byte_write_one _ _ _ _ c.byte_write-odd.ensures.moved (omega arith)) in
     omega (arith, both_bytes)
 
 pub overflow_add-result-then-pair-gt1 : goal.overflow_add-result-then-pair-gt1
 overflow_add-result-then-pair-gt1 c =
-    let both_bytes : OneByte c.byte_write-even.result × OneByte c.byte_write-odd.result = let sixteen-bits = c.ranges.datum in (byte_write_one _ _ _ _ c.byte_write-even.ensures.moved (omega arith), byte_write_one _ _ _ _ c.byte_write-odd.ensures.moved (omega arith)) in
+    let both_bytes : OneByte c.byte_write-even.result × OneByte c.byte_write-odd.result = let sixteen-bits = c.ranges.datum in
+    (byte_write_one _ _ _ _ c.byte_write-even.ensures.moved (omega arith), byte_write_one _ _ _ _ c.byte_write-odd.ensures.moved (omega arith)) in
     omega (arith, both_bytes)

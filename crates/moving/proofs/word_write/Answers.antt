@@ -17,7 +17,11 @@ here c = sym c.word_fits.ensures ∙ c.if-word_fits.true
 pub returns-then-word_fits : goal.returns-then-word_fits
 returns-then-word_fits c =
     let here : has_word c.args.m.now c.args.at ≡ true = sym c.word_fits.ensures ∙ c.if-word_fits.true in
-    let a = c.args.at in record { moved = c.word_write_pair.ensures.moved ∙ part_write _ _ _ here _; left = ap (put_mid a (a + 2 - a) c.args.m.now) c.word_write_pair.ensures.left ∙ part_home _ _ _ here _ }
+    let a = c.args.at in record {
+      moved = c.word_write_pair.ensures.moved ∙ part_write _ _ _ here _;
+      left = ap (put_mid a (a + 2 - a) c.args.m.now)
+          c.word_write_pair.ensures.left ∙ part_home _ _ _ here _;
+    }
 
 pub returns-else-word_fits : goal.returns-else-word_fits
 returns-else-word_fits c =

@@ -36,8 +36,7 @@ loop-start-preserved c =
     let n = c.loop-start.n in
     let inv = c.loop-start.invariant.1 in
     -- where the lines are not settled there, they are not after one look more
-    let still_not : NotBefore bus cards (suc n) = not_yet bus cards n inv.0 (sym c.is_settled.ensures ∙ c.loop-start-test.true) inv.1 in
-    (
+    let still_not : NotBefore bus cards (suc n) = not_yet bus cards n inv.0 (sym c.is_settled.ensures ∙ c.loop-start-test.true) inv.1 in (
       omega arith,
       (
         c.look-bus.ensures ∙ ap (λ (b : Bus). looked_by b (get_or cards n 0)) c.loop-start.invariant.1.0 ∙ look_next bus cards n (omega arith),

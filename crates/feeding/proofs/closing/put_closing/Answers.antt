@@ -10,7 +10,8 @@ use Rattle.feeding.proofs.closing.put_closing.Goals as goal
 pub returns-then-wanted-eq-WANTS_OUTCOMES : goal.returns-then-wanted-eq-WANTS_OUTCOMES
 returns-then-wanted-eq-WANTS_OUTCOMES c =
     let from = c.args in
-    let hands = closing_found (wanted_by from.wanted) Outcomes (wants_outcomes_holds from.wanted c.if-wanted-eq-WANTS_OUTCOMES.true) from.session from.rest.now _ _
+    let hands = closing_found (wanted_by from.wanted) Outcomes (wants_outcomes_holds from.wanted c.if-wanted-eq-WANTS_OUTCOMES.true) from.session
+    from.rest.now _ _
     (c.put_left.ensures.put, c.put_left.ensures.left) in
     record { put = hands.0; left = hands.1 }
 

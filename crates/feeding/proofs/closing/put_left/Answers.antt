@@ -11,11 +11,15 @@ returns-in-Awaiting c =
 pub returns-in-Running : goal.returns-in-Running
 returns-in-Running c =
     let from = c.args in
-    let hands = outcomes_left_holds from.session.stage from.session.bus from.rest.now _ _ (c.put_outcomes.ensures.put, c.put_outcomes.ensures.left) c.in-Running.is in
+    let hands = outcomes_left_holds from.session.stage from.session.bus from.rest.now _ _ (c.put_outcomes.ensures.put, c.put_outcomes.ensures.left)
+    c.in-Running.is in
     record { put = hands.0; left = hands.1 }
 
 pub returns-in-Ended : goal.returns-in-Ended
 returns-in-Ended c =
     let from = c.args in
-    let hands = outcomes_ended from.session.stage from.session.bus from.rest.now _ _ (c.put_outcomes-in-Ended.ensures.put, c.put_outcomes-in-Ended.ensures.left) c.in-Ended.is in
+    let hands = outcomes_ended from.session.stage from.session.bus from.rest.now _ _ (
+      c.put_outcomes-in-Ended.ensures.put,
+      c.put_outcomes-in-Ended.ensures.left,
+    ) c.in-Ended.is in
     record { put = hands.0; left = hands.1 }

@@ -21,11 +21,25 @@ returns-then-refusal-eq-ACCEPTED c =
     -- why the call is refused, if it is
     let refusal : ℕ = feed_refusal c.args.session.bus c.args.memory.now c.args.ports.now c.args.text.now c.args.filled in
     let not_refused : refusal ≡ Refusal.accepted = sym c.feed_refusal-refusal.ensures ∙ c.if-refusal-eq-ACCEPTED.true in
-    rw (eq-eqb refusal Refusal.accepted not_refused) record { fed = c.take_in.ensures.fed; text_left = c.take_in.ensures.text_left; out_left = c.take_in.ensures.out_left; memory_left = c.take_in.ensures.memory_left; ports_left = c.take_in.ensures.ports_left }
+    rw (eq-eqb refusal Refusal.accepted not_refused) record {
+      fed = c.take_in.ensures.fed;
+      text_left = c.take_in.ensures.text_left;
+      out_left =
+          c.take_in.ensures.out_left;
+      memory_left = c.take_in.ensures.memory_left;
+      ports_left = c.take_in.ensures.ports_left;
+    }
 
 pub returns-else-refusal-eq-ACCEPTED : goal.returns-else-refusal-eq-ACCEPTED
 returns-else-refusal-eq-ACCEPTED c =
     -- why the call is refused, if it is
     let refusal : ℕ = feed_refusal c.args.session.bus c.args.memory.now c.args.ports.now c.args.text.now c.args.filled in
     let from = c.args in
-    rw (ne_eqb refusal Refusal.accepted (λ e. c.if-refusal-eq-ACCEPTED.false (c.feed_refusal-refusal.ensures ∙ e))) record { fed = c.refused_fed.ensures ∙ ap (λ n. refused_fed n from.session from.filled) c.feed_refusal-refusal.ensures; text_left = refl; out_left = refl; memory_left = refl; ports_left = refl }
+    rw (ne_eqb refusal Refusal.accepted (λ e. c.if-refusal-eq-ACCEPTED.false (c.feed_refusal-refusal.ensures ∙ e))) record {
+      fed =
+          c.refused_fed.ensures ∙ ap (λ n. refused_fed n from.session from.filled) c.feed_refusal-refusal.ensures;
+      text_left = refl;
+      out_left = refl;
+      memory_left = refl;
+      ports_left = refl;
+    }

@@ -24,6 +24,14 @@ pub returns : goal.returns
 returns c =
     let given : World = let from = c.args in world_of from.session from.memory.now from.ports.now in
     let from = c.args in
-    let hands = fed_taken (wanted_by from.wanted) given from.text.now from.out.now from.filled c.take_lines-taken.result c.hold-held.result _ _ _ _
-    (c.take_lines-taken.ensures.taken, (c.take_lines-taken.ensures.out_left, (c.take_lines-taken.ensures.memory_left, c.take_lines-taken.ensures.ports_left))) c.hold-held.ensures.held c.hold-held.ensures.left in
+    let hands = fed_taken (wanted_by from.wanted) given from.text.now from.out.now from.filled c.take_lines-taken.result c.hold-held.result _ _ _ _ (
+      c.take_lines-taken.ensures.taken,
+      (
+        c.take_lines-taken.ensures.out_left,
+        (
+          c.take_lines-taken.ensures.memory_left,
+          c.take_lines-taken.ensures.ports_left,
+        ),
+      ),
+    ) c.hold-held.ensures.held c.hold-held.ensures.left in
     record { fed = hands.0; text_left = hands.1.0; out_left = hands.1.1.0; memory_left = hands.1.1.1.0; ports_left = hands.1.1.1.1 }

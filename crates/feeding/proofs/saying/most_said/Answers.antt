@@ -11,4 +11,5 @@ pub returns-then-wanted-eq-WANTS_OUTCOMES : goal.returns-then-wanted-eq-WANTS_OU
 returns-then-wanted-eq-WANTS_OUTCOMES c = sym (ap most_said (wants_outcomes_holds c.args.wanted c.if-wanted-eq-WANTS_OUTCOMES.true))
 
 pub returns-else-wanted-eq-WANTS_OUTCOMES : goal.returns-else-wanted-eq-WANTS_OUTCOMES
-returns-else-wanted-eq-WANTS_OUTCOMES c = sym (ap most_said (wants_pictures c.args.wanted c.if-wanted-eq-WANTS_ANSWERS.false c.if-wanted-eq-WANTS_OUTCOMES.false))
+returns-else-wanted-eq-WANTS_OUTCOMES c = sym (ap most_said (wants_pictures c.args.wanted c.if-wanted-eq-WANTS_ANSWERS.false
+    c.if-wanted-eq-WANTS_OUTCOMES.false))

@@ -11,7 +11,8 @@ returns-then-wanted-eq-WANTS_ANSWERS c =
     let event = c.args.event in
     let answer = c.args.answer in
     let place = c.args.out.now in
-    let hands = as_found place _ _ (λ w. event_as w event answer) (wanted_by wanted) Answers (wants_answers_holds wanted c.if-wanted-eq-WANTS_ANSWERS.true) c.requires
+    let hands = as_found place _ _ (λ w. event_as w event answer) (wanted_by wanted) Answers (wants_answers_holds wanted
+    c.if-wanted-eq-WANTS_ANSWERS.true) c.requires
     (λ room. answer_put place _ _ answer room (c.put_answer.ensures.put, c.put_answer.ensures.left)) in
     record { put = hands.0; left = hands.1 }
 
@@ -28,6 +29,7 @@ returns-else-wanted-eq-WANTS_OUTCOMES c =
     let event = c.args.event in
     let answer = c.args.answer in
     let place = c.args.out.now in
-    let hands = as_found place _ _ (λ w. event_as w event answer) (wanted_by wanted) Pictures (wants_pictures wanted c.if-wanted-eq-WANTS_ANSWERS.false c.if-wanted-eq-WANTS_OUTCOMES.false) c.requires
+    let hands = as_found place _ _ (λ w. event_as w event answer) (wanted_by wanted) Pictures (wants_pictures wanted
+    c.if-wanted-eq-WANTS_ANSWERS.false c.if-wanted-eq-WANTS_OUTCOMES.false) c.requires
     (λ room. pictures_put place _ _ event answer room (c.put_pictures.ensures.put, c.put_pictures.ensures.left)) in
     record { put = hands.0; left = hands.1 }

@@ -16,7 +16,8 @@ returns-in-Frame c =
     rw c.told.ensures (let hands = frame_taken (wanted_by c.args.wanted) c.args.bus c.args.memory.now c.args.ports.now c.args.rest.now
     c.args.out.now
     _ _ _ framed_line c.requires.ports_value c.requires.bus_value _ _ _ c.sound_step-stepped.ensures.both c.sound_step-stepped.ensures.memory_left
-    c.sound_step-stepped.ensures.ports_left c.put_event-written.ensures.put c.put_event-written.ensures.left in record { taken = hands.0; out_left = hands.1.0; memory_left = hands.1.1.0; ports_left = hands.1.1.1 })
+    c.sound_step-stepped.ensures.ports_left c.put_event-written.ensures.put c.put_event-written.ensures.left in
+    record { taken = hands.0; out_left = hands.1.0; memory_left = hands.1.1.0; ports_left = hands.1.1.1 })
 
 pub overflow_add-bad : goal.overflow_add-bad
 overflow_add-bad c =
@@ -29,7 +30,8 @@ returns-in-Bad c =
     let spoilt_line : Line.Bad c.in-Bad.bad ≡ next_line c.args.rest.now = sym c.in-Bad.is ∙ c.next_line-line.ensures in
     rw c.told-in-Bad.ensures (let hands = bad_taken (wanted_by c.args.wanted) c.args.bus c.args.memory.now c.args.ports.now c.args.rest.now
     c.args.out.now
-    _ _ _ spoilt_line _ c.fault_answer.ensures c.put_reply-written.ensures.put c.put_reply-written.ensures.left in record { taken = hands.0; out_left = hands.1.0; memory_left = hands.1.1.0; ports_left = hands.1.1.1 })
+    _ _ _ spoilt_line _ c.fault_answer.ensures c.put_reply-written.ensures.put c.put_reply-written.ensures.left in
+    record { taken = hands.0; out_left = hands.1.0; memory_left = hands.1.1.0; ports_left = hands.1.1.1 })
 
 pub returns-in-Unended : goal.returns-in-Unended
 returns-in-Unended c =

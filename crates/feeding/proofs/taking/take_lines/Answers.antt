@@ -12,7 +12,11 @@ loop-out-init c =
 pub take_line-line-requires : goal.take_line-line-requires
 take_line-line-requires c =
     let inv = c.loop-out.invariant in
-    record { wanted_in_bounds = room_behind _ inv (omega (arith, c.loop-out-test, c.most_said-most.ensures)); ports_value = inv.sound.fit; bus_value = inv.sound.sense }
+    record {
+      wanted_in_bounds = room_behind _ inv (omega (arith, c.loop-out-test, c.most_said-most.ensures));
+      ports_value = inv.sound.fit;
+      bus_value = inv.sound.sense;
+    }
 
 pub slice_bounds-rest-count : goal.slice_bounds-rest-count
 slice_bounds-rest-count c =
@@ -38,11 +42,27 @@ overflow_add-written c =
 
 pub loop-out-smaller : goal.loop-out-smaller
 loop-out-smaller c =
-    rest_less _ c.loop-out.invariant _ _ _ _ (c.take_line-line.ensures.taken, (c.take_line-line.ensures.out_left, (c.take_line-line.ensures.memory_left, c.take_line-line.ensures.ports_left))) c.if-size-eq0.false
+    rest_less _ c.loop-out.invariant _ _ _ _ (
+      c.take_line-line.ensures.taken,
+      (
+        c.take_line-line.ensures.out_left,
+        (c.take_line-line.ensures.memory_left, c.take_line-line.ensures.ports_left),
+      ),
+    ) c.if-size-eq0.false
 
 pub loop-out-preserved : goal.loop-out-preserved
 loop-out-preserved c =
-    turning_next _ c.loop-out.invariant _ _ _ _ (c.take_line-line.ensures.taken, (c.take_line-line.ensures.out_left, (c.take_line-line.ensures.memory_left, c.take_line-line.ensures.ports_left))) (omega arith) (omega arith) (omega (arith, c.loop-out-test, c.most_said-most.ensures)) c.if-size-eq0.false
+    turning_next _ c.loop-out.invariant _ _ _ _ (
+      c.take_line-line.ensures.taken,
+      (
+        c.take_line-line.ensures.out_left,
+        (c.take_line-line.ensures.memory_left, c.take_line-line.ensures.ports_left),
+      ),
+    ) (omega arith) (omega arith) (omega (
+      arith,
+      c.loop-out-test,
+      c.most_said-most.ensures,
+    )) c.if-size-eq0.false
 
 pub returns-after-loop-out : goal.returns-after-loop-out
 returns-after-loop-out c =
@@ -51,5 +71,11 @@ returns-after-loop-out c =
 
 pub returns-then-size-eq0 : goal.returns-then-size-eq0
 returns-then-size-eq0 c =
-    let hands = turning_none _ c.loop-out.invariant _ _ _ _ (c.take_line-line.ensures.taken, (c.take_line-line.ensures.out_left, (c.take_line-line.ensures.memory_left, c.take_line-line.ensures.ports_left))) c.if-size-eq0.true in
+    let hands = turning_none _ c.loop-out.invariant _ _ _ _ (
+      c.take_line-line.ensures.taken,
+      (
+        c.take_line-line.ensures.out_left,
+        (c.take_line-line.ensures.memory_left, c.take_line-line.ensures.ports_left),
+      ),
+    ) c.if-size-eq0.true in
     record { taken = hands.0; out_left = hands.1.0; memory_left = hands.1.1.0; ports_left = hands.1.1.1 }

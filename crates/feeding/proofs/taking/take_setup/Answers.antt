@@ -15,7 +15,8 @@ slice_bounds-setup_line-end c =
 
 pub returns-then-end-rest : goal.returns-then-end-rest
 returns-then-end-rest c =
-    rw (c.told.ensures, c.stage_after.ensures) (let hands = setup_taken (wanted_by c.args.wanted) c.args.bus c.args.rest.now c.args.out.now c.line_end-end.result
+    rw (c.told.ensures, c.stage_after.ensures) (let hands = setup_taken (wanted_by c.args.wanted) c.args.bus c.args.rest.now c.args.out.now
+    c.line_end-end.result
     c.line_end-end.ensures c.if-end-rest.true c.setup_line-line.result c.set_up-given.result _ _ c.setup_line-line.ensures
     c.set_up-given.ensures
     (c.put_reply-written.ensures.put ∙ ap (λ a. length (reply_as (wanted_by c.args.wanted) a)) c.setup_answer.ensures)

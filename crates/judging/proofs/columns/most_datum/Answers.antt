@@ -34,4 +34,5 @@ returns-in-12 c = rw c.in-12.is
 
 pub returns-in_default : goal.returns-in_default
 unfolding all_below is_among beside NoneOf
-returns-in_default c = sym (eqb-true _ _ (rest_of_match (λ k. eqb (most_datum k) 0) named 0x100 refl c.args.kind (search rules) c.in_default.in_default-own.rest))
+returns-in_default c = sym (eqb-true _ _ (rest_of_match (λ k. eqb (most_datum k) 0) named 0x100 refl c.args.kind (search rules)
+    c.in_default.in_default-own.rest))

@@ -73,17 +73,21 @@ returns-in-15 c = rw c.in-15.is
 -- the kind is none of those named, and between the first and the last of them
 pub returns-in-4-phase-2 : goal.returns-in-4-phase-2
 unfolding NoneOf
-returns-in-4-phase-2 c = cycle_taken _ _ (is_cycle_holds c.args.kind (search rules) c.in-6-to-12.in_default-own.rest c.in-6-to-12.if-kind-lt1-own.false c.in-6-to-12.if-kind-lt13-own.true) (rw c.in-4-phase-2.is)
+returns-in-4-phase-2 c = cycle_taken _ _ (is_cycle_holds c.args.kind (search rules) c.in-6-to-12.in_default-own.rest
+    c.in-6-to-12.if-kind-lt1-own.false c.in-6-to-12.if-kind-lt13-own.true) (rw c.in-4-phase-2.is)
 
 -- the kind is none of those named, and between the first and the last of them
 pub returns-in-0-to-1 : goal.returns-in-0-to-1
 unfolding NoneOf
-returns-in-0-to-1 c = cycle_taken _ _ (is_cycle_holds c.args.kind (search rules) c.in-6-to-12.in_default-own.rest c.in-6-to-12.if-kind-lt1-own.false c.in-6-to-12.if-kind-lt13-own.true) (early_cycles _ c.in-0-to-1.if-phase-lt2-own.true)
+returns-in-0-to-1 c = cycle_taken _ _ (is_cycle_holds c.args.kind (search rules) c.in-6-to-12.in_default-own.rest
+    c.in-6-to-12.if-kind-lt1-own.false c.in-6-to-12.if-kind-lt13-own.true) (early_cycles _ c.in-0-to-1.if-phase-lt2-own.true)
 
 -- the kind is none of those named, and between the first and the last of them
 pub returns-in_default-phase-8 : goal.returns-in_default-phase-8
 unfolding NoneOf
-returns-in_default-phase-8 c = cycle_refused _ _ (is_cycle_holds c.args.kind (search rules) c.in-6-to-12.in_default-own.rest c.in-6-to-12.if-kind-lt1-own.false c.in-6-to-12.if-kind-lt13-own.true) (no_cycles _ c.in_default-phase-8.if-phase-lt2-own.false c.in_default-phase-8.in_default-phase-8-own.rest.1)
+returns-in_default-phase-8 c = cycle_refused _ _ (is_cycle_holds c.args.kind (search rules) c.in-6-to-12.in_default-own.rest
+    c.in-6-to-12.if-kind-lt1-own.false c.in-6-to-12.if-kind-lt13-own.true) (no_cycles _ c.in_default-phase-8.if-phase-lt2-own.false
+    c.in_default-phase-8.in_default-phase-8-own.rest.1)
 
 pub returns-in_default : goal.returns-in_default
 returns-in_default c = no_kind _ _ (before_kinds _ c.in_default.if-kind-lt1-own.true)

@@ -13,10 +13,12 @@ judged c verdict e = ap (asked_after c.args.bus c.args.event) (sym e ∙ c.ruled
 
 pub returns-in-Refused : goal.returns-in-Refused
 returns-in-Refused c =
-    let judged : (verdict : Verdict) → c.ruled-verdict.result ≡ verdict → asked_after c.args.bus c.args.event verdict ≡ turn_of c.args.bus c.args.event = λ verdict e. ap (asked_after c.args.bus c.args.event) (sym e ∙ c.ruled-verdict.ensures) ∙ turn_asks _ _ in
+    let judged : (verdict : Verdict) → c.ruled-verdict.result ≡ verdict → asked_after c.args.bus c.args.event verdict ≡ turn_of c.args.bus
+    c.args.event = λ verdict e. ap (asked_after c.args.bus c.args.event) (sym e ∙ c.ruled-verdict.ensures) ∙ turn_asks _ _ in
     judged _ c.in-Refused.is
 
 pub returns-in-Takes : goal.returns-in-Takes
 returns-in-Takes c =
-    let judged : (verdict : Verdict) → c.ruled-verdict.result ≡ verdict → asked_after c.args.bus c.args.event verdict ≡ turn_of c.args.bus c.args.event = λ verdict e. ap (asked_after c.args.bus c.args.event) (sym e ∙ c.ruled-verdict.ensures) ∙ turn_asks _ _ in
+    let judged : (verdict : Verdict) → c.ruled-verdict.result ≡ verdict → asked_after c.args.bus c.args.event verdict ≡ turn_of c.args.bus
+    c.args.event = λ verdict e. ap (asked_after c.args.bus c.args.event) (sym e ∙ c.ruled-verdict.ensures) ∙ turn_asks _ _ in
     c.asked.ensures ∙ judged _ c.in-Takes.is

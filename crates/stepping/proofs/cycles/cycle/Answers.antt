@@ -48,6 +48,12 @@ pub returns-in_default-2 : goal.returns-in_default-2
 unfolding NoneOf
 returns-in_default-2 c =
     let given = c.args in
-    let none = none_of_the_cycles given.slave given.event given.memory.now given.ports.now
-    ((c.in_default.in_default-own.rest, λ e. omega (arith, e, c.in_default.if-kind-lt8-own.false)), λ e. omega (arith, e, c.in_default.if-kind-lt8-own.false)) in
+    let none = none_of_the_cycles given.slave given.event given.memory.now given.ports.now (
+      (c.in_default.in_default-own.rest, λ e. omega (arith, e, c.in_default.if-kind-lt8-own.false)),
+      λ e. omega (
+        arith,
+        e,
+        c.in_default.if-kind-lt8-own.false,
+      ),
+    ) in
     record { moved = none.0; memory_left = none.1.0; ports_left = none.1.1 }
