@@ -105,16 +105,16 @@ module _ (m : Machine) (event : Event) (k : ℕ) (ok : AcceptedAs k m event) whe
 
 pub look_does : LookDoes
 unfolding looked is_among beside signals_in drivers_in word_signals status_of
-look_does m event ok = steps Kind.look m event ok refl after_look_holds step HOLD (λ s. refl) refl
+look_does m event ok = steps Kind.look m event ok refl reached step HOLD (λ s. refl) refl
   where
-    after_look_holds : Bus
-    after_look_holds =
+    reached : Bus
+    reached =
         changed m.bus Phase.arbitration m.bus.contenders (set m.bus.driven event.speaker (look 4 event.speaker (lines_of m.bus))) nobody
 
     at : m.bus.phase ≡ Phase.arbitration
     at = arbitrating m event Kind.look ok refl
 
-    step : looked_by m.bus event.speaker ≡ after_look_holds
+    step : looked_by m.bus event.speaker ≡ reached
     step =
         let may : may_look m.bus event.speaker ≡ true = both (eq-eqb _ _ at) (speaker_has_turn m event ok.1 Kind.look ok.0) in
         rw (may, at, nobody_yet m event Kind.look ok at)

@@ -12,7 +12,6 @@ use Rattle.words.proofs.RowLaws.{end, ◌and◌}
 use Rattle.words.proofs.TestLaws.{true_or_false, both_of}
 use Rattle.bus.specs.Refusal as Refusal
 use Rattle.bus.specs.declared.state.Bus.{Bus}
-use Rattle.bus.specs.declared.step.Step.{Step}
 use Rattle.judgement.specs.Table.{Row, has_turn, row_of}
 use Rattle.judgement.specs.Refusals.{is_malformed, names_nobody, names_unfitted, is_wrong_phase}
 use Rattle.judgement.specs.Judge.{turn_reasons, sound_refusal, sound_verdict}

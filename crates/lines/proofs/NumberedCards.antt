@@ -9,8 +9,8 @@ pub by_number_holds : ByNumber
 by_number_holds w contends = (λ q k. k.present, λ q r kq kr e. e)
 
 pub card_zero_alone : CardZeroAlone
-card_zero_alone w contends zero-contends alone =
+card_zero_alone w contends zero_contends alone =
     settled_show_highest (by_number w contends) (by_number_holds w contends).0 0 record {
-      contender = record { present = pow_pos w; contending = zero-contends };
+      contender = record { present = pow_pos w; contending = zero_contends };
       top = λ q k. le_of_eq (alone q k);
     }

@@ -21,17 +21,17 @@ module _ (place : List ℕ) (long : length place ≡ 25) {a b c d e a' b' c' d' 
   pub fives_filled : a ≡ a' → b ≡ b' → c ≡ c' → d ≡ d' → e ≡ e'
       → length a' ≡ 5 → length b' ≡ 5 → length c' ≡ 5 → length d' ≡ 5 → length e' ≡ 5
       → put_mid 20 5 (put_mid 15 5 (put_mid 10 5 (put_mid 5 5 (put_mid 0 5 place a) b) c) d) e ≡ a' ++ b' ++ c' ++ d' ++ e'
-  fives_filled p q r s t in_a in_b in_c in-d in_e =
+  fives_filled p q r s t in_a in_b in_c in_d in_e =
       rw (p, q, r, s, t) (
       let two : length (a' ++ b') ≡ 10 = omega (arith, in_a, in_b, length-append a' b') in
       let three : length (a' ++ b' ++ c') ≡ 15 = omega (arith, two, in_c, length-append (a' ++ b') c') in
-      let four : length (a' ++ b' ++ c' ++ d') ≡ 20 = omega (arith, three, in-d, length-append (a' ++ b' ++ c') d') in
+      let four : length (a' ++ b' ++ c' ++ d') ≡ 20 = omega (arith, three, in_d, length-append (a' ++ b' ++ c') d') in
       let five : length (a' ++ b' ++ c' ++ d' ++ e') ≡ 25 = omega (arith, four, in_e, length-append (a' ++ b' ++ c' ++ d') e') in
       let at_5 = filled_next place place [] a' 0 5 refl refl (omega arith) (omega (arith, long)) in_a in
-      let at-10 = filled_next place _ a' b' 5 10 at_5 in_a (omega arith) (omega (arith, long)) in_b in
-      let at-15 = filled_next place _ (a' ++ b') c' 10 15 at-10 two (omega arith) (omega (arith, long)) in_c in
-      let at-20 = filled_next place _ (a' ++ b' ++ c') d' 15 20 at-15 three (omega arith) (omega (arith, long)) in-d in
-      filled_next place _ (a' ++ b' ++ c' ++ d') e' 20 25 at-20 four (omega arith) (omega (arith, long)) in_e
+      let at_10 = filled_next place _ a' b' 5 10 at_5 in_a (omega arith) (omega (arith, long)) in_b in
+      let at_15 = filled_next place _ (a' ++ b') c' 10 15 at_10 two (omega arith) (omega (arith, long)) in_c in
+      let at_20 = filled_next place _ (a' ++ b' ++ c') d' 15 20 at_15 three (omega arith) (omega (arith, long)) in_d in
+      filled_next place _ (a' ++ b' ++ c' ++ d') e' 20 25 at_20 four (omega arith) (omega (arith, long)) in_e
       ∙ sets_all place _ (omega (arith, five, long)))
 
 -- ---- A digit that goes by tests, told by its values

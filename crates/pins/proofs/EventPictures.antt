@@ -131,8 +131,8 @@ module _ (m : Machine) (event : Event) (ok : refusal_in m event ≡ 0) where
 
   pub idle_shown : is_cycle event.kind ≡ false → OneLine (pictures m event) (λ line. ShowsBus m event line × NoCycle line)
   idle_shown none =
-      let not-word = no_word m event ok (word_strobe event.kind (kind_known m event ok) (strobe false none)) in
-      let fits = fits_as m event ok 0 (inl refl) not-word 0 0 0 false false in
+      let not_word = no_word m event ok (word_strobe event.kind (kind_known m event ok) (strobe false none)) in
+      let fits = fits_as m event ok 0 (inl refl) not_word 0 0 0 false false in
       one_picture (pictures m event) (idle_moment event (answer_to m event)) _ (idle_moments none) (
         bus_shown (idle_moment event (answer_to m event)) (answer_to m event).phase event.kind 0 fits (λ e. quiet_out none),
         no_cycle (idle_moment event (answer_to m event)) (answer_to m event).phase event.kind fits (strobe false none) refl refl refl,

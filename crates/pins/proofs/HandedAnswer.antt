@@ -225,7 +225,7 @@ module _ (event : Event) (answer : Answer) (ok : answer.refusal ≡ 0) where
       taken = eq-eqb answer.refusal 0 ok
 
       uncut : Kind.is_word event.kind ≡ true → eqb answer.cycles 2 ≡ false
-      uncut word = ⊎_elim (λ other. absurd (true≢false (sym word ∙ words false other))) (λ not-two. ne_eqb answer.cycles 2 not-two) whole
+      uncut word = ⊎_elim (λ other. absurd (true≢false (sym word ∙ words false other))) (λ not_two. ne_eqb answer.cycles 2 not_two) whole
 
       one : (x : Moment) → pictures_of event answer ≡ lines_for (x ∷ []) → Whole (picture_of x) → OneLine (pictures_of event answer) Whole
       one x = one_picture (pictures_of event answer) x Whole

@@ -13,7 +13,7 @@ use Rattle.phases.specs.Kind as Kind
 use Rattle.bus.specs.Steps.{after_looks_of}
 use Rattle.bus.specs.declared.state.Bus.{Bus}
 use Rattle.bus.proofs.Granting.{looks_drive}
-use Rattle.bus.proofs.LookRuns.{looks_append as bus-looks-append}
+use Rattle.bus.proofs.LookRuns.{looks_append as bus_looks_append}
 use Rattle.bus.specs.declared.step.Step.{Step}
 use Rattle.judgement.specs.Table.{Row, row_of, is_cycle_step, is_cycle}
 use Rattle.judgement.specs.declared.event.Event.{Event}
@@ -90,7 +90,7 @@ run_looks [] bus phase on = refl
 run_looks (c ∷ calls) bus phase on =
     run_looks calls (bus_after bus c) (ap (λ (b : Bus). b.phase) first ∙ (looks_keep bus phase (looks_in bus (c ∷ []))).0) here.1
     ∙ ap (λ (b : Bus). after_looks_of b (looks_in (bus_after bus c) calls)) first
-    ∙ sym (bus-looks-append bus (looks_in bus (c ∷ [])) (looks_in (bus_after bus c) calls))
+    ∙ sym (bus_looks_append bus (looks_in bus (c ∷ [])) (looks_in (bus_after bus c) calls))
     ∙ ap (after_looks_of bus) (sym (looks_append bus (c ∷ []) calls))
   where
     here : (is_accepted bus c ≡ true → (eqb c.event.kind Kind.acknowledge ≡ false) × (eqb c.event.kind Kind.reset ≡ false))

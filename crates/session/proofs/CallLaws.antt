@@ -1,12 +1,12 @@
 -- What is held, and how it is brought to the front.
 use mathlib.Core.Path.{◌≡◌, refl, sym, ap, ap₂, subst, ◌∙◌}
-use mathlib.Core.Bool.{Bool, true, false, cond, ◌&&◌}
+use mathlib.Core.Bool.{Bool, true, false, ◌&&◌}
 use mathlib.Core.List.{List, ◌++◌}
 use Prim.Native.Nat.{ℕ, suc, ◌+◌, ◌-◌, ◌<◌, ◌≤◌}
 use native.Mathlib.Decide.{dec_le}
 use native.Mathlib.Omega.{arith}
 use lib.Dec.{eqb, ltb}
-use lib.ListN.{length, get_or, take, drop, set, replicate, length-take, length-drop}
+use lib.ListN.{length, get_or, take, drop, set, length-take, length-drop}
 use lib.Seq.{take_all, take-length, take-take, take-add, drop_at, length-take-le, paste, paste-suc, get_or-drop, get_or-append-add}
 use borrow.Author.Tests.{eqb-true, eq-eqb, ltb-true, ltb-false}
 use Rattle.text.specs.Newlines.{has_newline, first_line}

@@ -138,16 +138,16 @@ module _ (wanted : Wanted) where
     -- ---- One turn, by what take_line told and left
 
     module _ (line : TakenLines) (part' m' p' : List ℕ)
-        (line-told : TakenAs (takes_first wanted (world stage bus m p) rest) (mid_of written (length out - written) out) line part' m' p') where
+        (line_told : TakenAs (takes_first wanted (world stage bus m p) rest) (mid_of written (length out - written) out) line part' m' p') where
       used_is : line.used ≡ (takes_first wanted (world stage bus m p) rest).used
-      used_is = ap (λ (l : TakenLines). l.used) line-told.0
+      used_is = ap (λ (l : TakenLines). l.used) line_told.0
 
       pub size_within : line.used ≤ length rest
       size_within = omega (arith, used_is, line_used (answering wanted) (world stage bus m p) rest)
 
       pub written_most : line.written ≤ (most_said wanted)
       written_most =
-          omega (arith, ap (λ (l : TakenLines). l.written) line-told.0, said_most (true_or_false (has_newline rest)))
+          omega (arith, ap (λ (l : TakenLines). l.written) line_told.0, said_most (true_or_false (has_newline rest)))
         where
           said_most : (has_newline rest ≡ true) ⊎ (has_newline rest ≡ false) → length (takes_first wanted (world stage bus m p) rest).said ≤ (most_said wanted)
           said_most = ⊎_elim (λ has. rw has (line_at_most wanted (world stage bus m p) (first_line rest))) (λ none. rw none (omega arith))
@@ -162,7 +162,7 @@ module _ (wanted : Wanted) where
           (world line.session.stage line.session.bus m' p') (drop line.used rest) (used + line.used) (written + line.written)
       going_next has fits =
           let w = world stage bus m p in
-          let so : TakenAs (line_off (answering wanted) w rest) (mid_of written (length out - written) out) line part' m' p' = rw has at line-told in
+          let so : TakenAs (line_off (answering wanted) w rest) (mid_of written (length out - written) out) line part' m' p' = rw has at line_told in
           rw (so.0, so.1.0, so.1.1.0, so.1.1.1) (
           going_on (answering wanted) out₀ (takes wanted (length out₀) w₀ text) out w rest used written t.going fits
           (line_at_most wanted w (first_line rest)) has)
@@ -170,19 +170,19 @@ module _ (wanted : Wanted) where
       sound_next : has_newline rest ≡ true → Sound (world line.session.stage line.session.bus m' p')
       sound_next has =
           let w = world stage bus m p in
-          let so : TakenAs (line_off (answering wanted) w rest) (mid_of written (length out - written) out) line part' m' p' = rw has at line-told in
+          let so : TakenAs (line_off (answering wanted) w rest) (mid_of written (length out - written) out) line part' m' p' = rw has at line_told in
           rw (so.0, so.1.1.0, so.1.1.1) (sound_turns w (first_line rest) t.sound)
 
       pub turning_next : length m' ≡ length m → length p' ≡ length p → (most_said wanted) ≤ length out - written → (line.used ≡ 0 → ⊥)
           → Turning text out₀ w₀ (put_mid written (length out - written) out part') m' p' line.session.stage line.session.bus
           (mid_of line.used (length rest - line.used) rest) (used + line.used) (written + line.written)
-      turning_next m-long p-long fits some =
+      turning_next m_long p_long fits some =
           let has = some_line (answering wanted) (world stage bus m p) rest (λ e. some (used_is ∙ e)) in
           record {
             going = rw (part_behind rest line.used) (going_next has fits);
             within = omega (arith, t.within, size_within, ap length (part_behind rest line.used), length-drop line.used rest);
-            memory = m-long ∙ t.memory;
-            ports = p-long ∙ t.ports;
+            memory = m_long ∙ t.memory;
+            ports = p_long ∙ t.ports;
             sound = sound_next has;
           }
 
@@ -195,7 +195,7 @@ module _ (wanted : Wanted) where
           let unended = no_line (answering wanted) w rest (sym used_is ∙ none) in
           let same : put_mid written (length out - written) out (mid_of written (length out - written) out) ≡ out =
           home out [] written (omega (arith, t.going.room)) in
-          let so : (part' ≡ mid_of written (length out - written) out) × ((m' ≡ m) × (p' ≡ p)) = (rw unended at line-told).1 in
+          let so : (part' ≡ mid_of written (length out - written) out) × ((m' ≡ m) × (p' ≡ p)) = (rw unended at line_told).1 in
           rw (so.0, so.1.0, so.1.1, same) (
           returned text out₀ w₀ out m p stage bus used written
           (gone_unended (answering wanted) out₀ (takes wanted (length out₀) w₀ text) out w rest used written t.going unended))

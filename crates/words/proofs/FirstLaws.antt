@@ -224,7 +224,7 @@ least_below_holds test n k h e = go (dec_lt (least_below test n) n)
   where
     go : Dec (least_below test n < n) → least_below test n < n
     go (yes below) = below
-    go (no not-below) = absurd (true≢false (sym e ∙ least_first test n k (omega arith)))
+    go (no not_below) = absurd (true≢false (sym e ∙ least_first test n k (omega arith)))
 
 -- so a number that passes, and before which none does, is the least
 pub least_is : (test : ℕ → Bool) (n m : ℕ) → ((k : ℕ) → k < m → test k ≡ false) → test m ≡ true → m < n → least_below test n ≡ m

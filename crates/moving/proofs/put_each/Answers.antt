@@ -7,16 +7,9 @@ use native.Mathlib.Omega.{arith}
 use borrow.Author.Tests.{lt-ltb, le-ltb}
 use Rattle.memory.specs.Halves.{odd_half}
 use Rattle.memory.specs.Cycles.{together, byte_write, after_byte_write}
-use Rattle.memory.proofs.OneByte.{OneByte, byte_write_one}
+use Rattle.memory.proofs.OneByte.{byte_write_one}
 use Rattle.memory.proofs.WordLaws.{word_write_serial, after_word_is, no_word_write, no_word_after}
 use Rattle.moving.proofs.put_each.Goals as goal
-use Rattle.moving.proofs.put_each.Goals.{After-byte_write-odd}
-
--- what the two cycles moved, once the second has taken place
-both_bytes : (c : After-byte_write-odd) → OneByte c.byte_write-even.result × OneByte c.byte_write-odd.result
-both_bytes c =
-    let sixteen-bits = c.ranges.datum in
-    (byte_write_one _ _ _ _ c.byte_write-even.ensures.moved (omega arith), byte_write_one _ _ _ _ c.byte_write-odd.ensures.moved (omega arith))
 
 pub returns-then-pair-gt1 : goal.returns-then-pair-gt1
 returns-then-pair-gt1 c =
@@ -36,20 +29,30 @@ returns-else-pair-gt1 c =
     let none = le-ltb 1 _ c.if-pair-gt1.false in
     record { moved = sym (no_word_write _ 0 _ _ none); left = sym (no_word_after _ 0 _ _ none) }
 
+-- what each cycle moved is a byte
 pub overflow_mul-result : goal.overflow_mul-result
 overflow_mul-result c =
-    let both_bytes : OneByte c.byte_write-even.result × OneByte c.byte_write-odd.result = let sixteen-bits = c.ranges.datum in
-    (byte_write_one _ _ _ _ c.byte_write-even.ensures.moved (omega arith), byte_write_one _ _ _ _ c.byte_write-odd.ensures.moved (omega arith)) in
-    omega (arith, both_bytes)
+    let sixteen_bits = c.ranges.datum in
+    omega (
+      arith,
+      byte_write_one _ _ _ _ c.byte_write-even.ensures.moved (omega arith),
+      byte_write_one _ _ _ _ c.byte_write-odd.ensures.moved (omega arith),
+    )
 
 pub overflow_add-result : goal.overflow_add-result
 overflow_add-result c =
-    let both_bytes : OneByte c.byte_write-even.result × OneByte c.byte_write-odd.result = let sixteen-bits = c.ranges.datum in
-    (byte_write_one _ _ _ _ c.byte_write-even.ensures.moved (omega arith), byte_write_one _ _ _ _ c.byte_write-odd.ensures.moved (omega arith)) in
-    omega (arith, both_bytes)
+    let sixteen_bits = c.ranges.datum in
+    omega (
+      arith,
+      byte_write_one _ _ _ _ c.byte_write-even.ensures.moved (omega arith),
+      byte_write_one _ _ _ _ c.byte_write-odd.ensures.moved (omega arith),
+    )
 
 pub overflow_add-result-then-pair-gt1 : goal.overflow_add-result-then-pair-gt1
 overflow_add-result-then-pair-gt1 c =
-    let both_bytes : OneByte c.byte_write-even.result × OneByte c.byte_write-odd.result = let sixteen-bits = c.ranges.datum in
-    (byte_write_one _ _ _ _ c.byte_write-even.ensures.moved (omega arith), byte_write_one _ _ _ _ c.byte_write-odd.ensures.moved (omega arith)) in
-    omega (arith, both_bytes)
+    let sixteen_bits = c.ranges.datum in
+    omega (
+      arith,
+      byte_write_one _ _ _ _ c.byte_write-even.ensures.moved (omega arith),
+      byte_write_one _ _ _ _ c.byte_write-odd.ensures.moved (omega arith),
+    )

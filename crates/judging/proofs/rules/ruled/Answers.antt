@@ -1,11 +1,8 @@
 -- Arm by arm: the kind, then the phase.
-use mathlib.Core.Path.{◌≡◌}
-use mathlib.Core.Bool.{true}
 use borrow.Author.Rules.{rules}
 use borrow.Author.Tests.{ne_eqb}
 use Rattle.words.specs.Among.{beside}
 use Rattle.words.proofs.RowLaws.{NoneOf}
-use Rattle.judgement.specs.Table.{is_cycle}
 use Rattle.judging.specs.Turns.{ruled_of}
 use Rattle.judging.proofs.RuleLaws.{is_cycle_holds, past_kinds, before_kinds, no_kind, cycle_taken, cycle_refused, early_cycles, no_cycles}
 use Rattle.judging.proofs.rules.ruled.Goals as goal

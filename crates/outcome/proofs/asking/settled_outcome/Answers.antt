@@ -14,24 +14,24 @@ use Rattle.outcome.proofs.asking.settled_outcome.Goals.{After-line_lost-line, El
 pub rival_at-requires : goal.rival_at-requires
 rival_at-requires c =
     let line : ℕ = line_lost c.args.card (lines_of c.args.bus) in
-    let line-is : c.line_lost-line.result ≡ line = c.line_lost-line.ensures ∙ ap (line_lost c.args.card) c.lines.ensures in
-    let some_line : line ≡ no_line → ⊥ = λ none. c.if-line.false (line-is ∙ none) in
-    rw line-is (highest_found (is_outbid_at c.args.card (lines_of c.args.bus)) 4 no_line some_line)
+    let line_is : c.line_lost-line.result ≡ line = c.line_lost-line.ensures ∙ ap (line_lost c.args.card) c.lines.ensures in
+    let some_line : line ≡ no_line → ⊥ = λ none. c.if-line.false (line_is ∙ none) in
+    rw line_is (highest_found (is_outbid_at c.args.card (lines_of c.args.bus)) 4 no_line some_line)
 
 pub returns-then-line : goal.returns-then-line
 unfolding settled_outcome
 returns-then-line c =
     let line : ℕ = line_lost c.args.card (lines_of c.args.bus) in
-    let line-is : c.line_lost-line.result ≡ line = c.line_lost-line.ensures ∙ ap (line_lost c.args.card) c.lines.ensures in
-    then_pick _ (eq-eqb _ _ (sym line-is ∙ c.if-line.true)) refl
+    let line_is : c.line_lost-line.result ≡ line = c.line_lost-line.ensures ∙ ap (line_lost c.args.card) c.lines.ensures in
+    then_pick _ (eq-eqb _ _ (sym line_is ∙ c.if-line.true)) refl
 
 pub returns-else-line : goal.returns-else-line
 unfolding settled_outcome
 returns-else-line c =
     let line : ℕ = line_lost c.args.card (lines_of c.args.bus) in
-    let line-is : c.line_lost-line.result ≡ line = c.line_lost-line.ensures ∙ ap (line_lost c.args.card) c.lines.ensures in
-    let some_line : line ≡ no_line → ⊥ = λ none. c.if-line.false (line-is ∙ none) in
+    let line_is : c.line_lost-line.result ≡ line = c.line_lost-line.ensures ∙ ap (line_lost c.args.card) c.lines.ensures in
+    let some_line : line ≡ no_line → ⊥ = λ none. c.if-line.false (line_is ∙ none) in
     let bus = c.args.bus in
     else_pick _ (ne_eqb _ _ some_line)
     (ap (λ (rival : ℕ). Loses (loss c.line_lost-line.result rival)) c.rival_at.ensures
-    ∙ ap (λ (l : ℕ). Loses (loss l (rival_at bus l))) line-is)
+    ∙ ap (λ (l : ℕ). Loses (loss l (rival_at bus l))) line_is)
