@@ -1,5 +1,6 @@
 -- Read in this order: the answers; the state, its sense and setup; the steps, one by one and together; settle; what is promised; runs.
 pub mod Refusal
+pub mod Told
 pub mod State
 pub mod Sense
 pub mod Setup

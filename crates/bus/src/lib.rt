@@ -3,11 +3,13 @@
 
 pub mod numbers;
 mod priority;
+mod refusal;
 mod settle;
 mod state;
 mod step;
 mod steps;
 
+pub use refusal::Refusal;
 pub use settle::Settlement;
 pub use state::{Bus, Chassis, EMPTY_CHASSIS, SetupAnswer};
 pub use step::Step;

@@ -1,0 +1,25 @@
+-- What the code's results tell, in 01's numbers: each refusal has one, and what isn't refused is answered by 0.
+use Rattle.std.specs.Prelude.{ℕ, Result, Ok, Err}
+use Rattle.bus.specs.Refusal as Number
+use Rattle.bus.specs.declared.refusal.Refusal.{Refusal}
+
+abbrev pub number_of : Refusal → ℕ
+number_of Refusal.WrongBuffers = Number.wrong_buffers
+number_of Refusal.Senseless = Number.senseless
+number_of Refusal.Malformed = Number.malformed
+number_of Refusal.NobodyNamed = Number.nobody_named
+number_of Refusal.NotFitted = Number.not_fitted
+number_of Refusal.WrongPhase = Number.wrong_phase
+number_of Refusal.NotItsTurn = Number.not_its_turn
+number_of Refusal.Unsettled = Number.unsettled
+number_of Refusal.OddWord = Number.odd_word
+number_of Refusal.Absent = Number.absent
+number_of Refusal.BadPage = Number.bad_page
+number_of Refusal.WrongLineLength = Number.wrong_line_length
+number_of Refusal.WrongCharacter = Number.wrong_character
+number_of Refusal.WrongLength = Number.wrong_length
+
+-- the number that a result is answered by, whatever it tells besides
+abbrev pub answered : {A : Type 0} → Result A Refusal → ℕ
+answered (Ok told) = Number.accepted
+answered (Err refusal) = number_of refusal
