@@ -5,5 +5,6 @@ pub mod Kept
 pub mod LookRuns
 pub mod SenseLaws
 pub mod SettleLaws
-pub mod Settled
+pub mod SettleAnswers
 pub mod SetUp
+pub mod ToldLaws

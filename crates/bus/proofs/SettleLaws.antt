@@ -12,12 +12,14 @@ use Rattle.words.specs.First.{reason, first_of}
 use Rattle.words.proofs.TestLaws.{true_or_false}
 use Rattle.words.proofs.BelowLaws.{last_or_below, all_at, all_of}
 use Rattle.words.proofs.FirstLaws.{Numbered, first_append, least_is}
-use Rattle.bus.specs.Refusal as Refusal
+use Rattle.bus.specs.Refusal as Number
 use Rattle.bus.specs.State.{is_settled}
 use Rattle.bus.specs.Steps.{after_looks_of}
-use Rattle.bus.specs.Settle.{settled_after, leading_looks, never_settles, list_reasons, list_refusal, settle_refusal, settle_refused, accepted_after, settle_of}
+use Rattle.bus.specs.Settle.{Settlement, settled_after, leading_looks, never_settles, list_reasons, list_refusal, settle_refusal, settle_refused, accepted_after, settle_of}
+use Rattle.bus.specs.Told.{number_of}
+use Rattle.bus.specs.declared.refusal.Refusal.{Refusal}
 use Rattle.bus.specs.declared.state.Bus.{Bus}
-use Rattle.bus.specs.declared.settle.Settlement.{Settlement}
+use Rattle.bus.proofs.ToldLaws.{never_accepted}
 
 module _ (bus : Bus) (cards : List ℕ) where
   -- none of the first n leading parts settles the lines
@@ -26,7 +28,7 @@ module _ (bus : Bus) (cards : List ℕ) where
 
   -- what the looks answer, where nothing is wrong with the list
   abbrev pub looks_answer : Settlement
-  looks_answer = cond (never_settles bus cards) (settle_refused Refusal.unsettled bus) (accepted_after (leading_looks bus cards) bus cards)
+  looks_answer = cond (never_settles bus cards) (settle_refused Number.unsettled bus) (accepted_after (leading_looks bus cards) bus cards)
 
   pub settled_after_holds : (n : ℕ) {reached : Bus} → reached ≡ after_looks_of bus (take n cards) → settled_after bus cards n ≡ is_settled reached
   unfolding settled_after
@@ -38,7 +40,7 @@ module _ (bus : Bus) (cards : List ℕ) where
       ⊎_elim (λ (s : k ≡ n). ap (settled_after bus cards) s ∙ settled_after_holds n e ∙ f) (none k) (last_or_below h)
 
   pub stops : (n : ℕ) {reached : Bus} → reached ≡ after_looks_of bus (take n cards) → is_settled reached ≡ true → NotBefore n → n ≤ length cards
-      → ◌≡◌ {A = Settlement} (record { answer = Refusal.accepted; bus = reached; looks = n }) looks_answer
+      → ◌≡◌ {A = Settlement} (record { answer = Number.accepted; bus = reached; looks = n }) looks_answer
   unfolding leading_looks never_settles
   stops n {reached} e t none h = rw (e, sometime, least)
     where
@@ -51,7 +53,7 @@ module _ (bus : Bus) (cards : List ℕ) where
       sometime : never_settles bus cards ≡ false
       sometime = ⊎_elim (λ w. absurd (true≢false (sym at_n ∙ not-true _ (all_at _ (suc (length cards)) w n (omega arith))))) (λ f. f) (true_or_false _)
 
-  pub never : NotBefore (suc (length cards)) → settle_refused Refusal.unsettled bus ≡ looks_answer
+  pub never : NotBefore (suc (length cards)) → settle_refused Number.unsettled bus ≡ looks_answer
   unfolding never_settles
   never none = let w : never_settles bus cards ≡ true = all_of _ (suc (length cards)) (λ k h. ap not (none k h)) in rw w
 
@@ -61,23 +63,24 @@ module _ (bus : Bus) (cards : List ℕ) where
   unfolding Numbered
   reasons_numbered = (lit< tt, (lit< tt, (lit< tt, (lit< tt, (lit< tt, tt)))))
 
-  pub judged : settle_refusal bus cards ≡ cond (eqb (list_refusal bus cards) 0) (cond (never_settles bus cards) Refusal.unsettled 0) (list_refusal bus cards)
+  pub judged : settle_refusal bus cards ≡ cond (eqb (list_refusal bus cards) 0) (cond (never_settles bus cards) Number.unsettled 0) (list_refusal bus cards)
   unfolding settle_refusal list_refusal first_of
-  judged = first_append (list_reasons bus cards) (reason Refusal.unsettled (never_settles bus cards) ∷ []) reasons_numbered
+  judged = first_append (list_reasons bus cards) (reason Number.unsettled (never_settles bus cards) ∷ []) reasons_numbered
 
-  pub list_refused : {refusal : ℕ} → refusal ≡ list_refusal bus cards → (refusal ≡ 0 → ⊥) → settle_refused refusal bus ≡ settle_of bus cards
+  pub list_refused : (refusal : Refusal) → number_of refusal ≡ list_refusal bus cards → settle_refused (number_of refusal) bus ≡ settle_of bus cards
   unfolding settle_of
-  list_refused {refusal} e some =
-      let same : settle_refusal bus cards ≡ refusal = judged ∙ rw (← e, ne_eqb refusal 0 some) in
-      rw (same, ne_eqb refusal 0 some)
+  list_refused refusal e =
+      let some = ne_eqb _ _ (never_accepted refusal) in
+      let same : settle_refusal bus cards ≡ number_of refusal = judged ∙ rw (← e, some) in
+      rw (same, some)
 
-  pub list_accepted : {refusal : ℕ} → refusal ≡ list_refusal bus cards → refusal ≡ 0 → looks_answer ≡ settle_of bus cards
+  pub list_accepted : Number.accepted ≡ list_refusal bus cards → looks_answer ≡ settle_of bus cards
   unfolding settle_of
-  list_accepted {refusal} e none =
-      let same : settle_refusal bus cards ≡ cond (never_settles bus cards) Refusal.unsettled 0 = judged ∙ rw (← e, none) in
+  list_accepted e =
+      let same : settle_refusal bus cards ≡ cond (never_settles bus cards) Number.unsettled 0 = judged ∙ rw (← e) in
       rw same (by_cases (never_settles bus cards))
     where
-      by_cases : (b : Bool) → cond b (settle_refused Refusal.unsettled bus) (accepted_after (leading_looks bus cards) bus cards)
-          ≡ cond (eqb (cond b Refusal.unsettled 0) 0) (accepted_after (leading_looks bus cards) bus cards) (settle_refused (cond b Refusal.unsettled 0) bus)
+      by_cases : (b : Bool) → cond b (settle_refused Number.unsettled bus) (accepted_after (leading_looks bus cards) bus cards)
+          ≡ cond (eqb (cond b Number.unsettled 0) 0) (accepted_after (leading_looks bus cards) bus cards) (settle_refused (cond b Number.unsettled 0) bus)
       by_cases true = refl
       by_cases false = refl

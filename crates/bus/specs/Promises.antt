@@ -12,12 +12,11 @@ use Rattle.bus.specs.Sense.{makes_sense}
 use Rattle.bus.specs.Setup.{empty_bus, setup_of}
 use Rattle.bus.specs.Steps.{requested, after_looks_of, acknowledged}
 use Rattle.phases.specs.Signal.{HOLD, pHLDA, is_on, signals_in}
-use Rattle.bus.specs.Settle.{settle_reasons, list_refusal, settle_of}
+use Rattle.bus.specs.Settle.{Settlement, settle_reasons, list_refusal, settle_of}
 use Rattle.bus.specs.Step.{step_by}
 use Rattle.bus.specs.declared.state.Bus.{Bus}
 use Rattle.bus.specs.declared.state.Chassis.{Chassis}
 use Rattle.bus.specs.declared.step.Step.{Step}
-use Rattle.bus.specs.declared.settle.Settlement.{Settlement}
 
 -- ---- Sense
 

@@ -10,7 +10,6 @@ use Rattle.bus.specs.State.{is_settled}
 use Rattle.bus.specs.Sense.{is_senseless}
 use Rattle.bus.specs.Steps.{after_looks_of}
 use Rattle.bus.specs.declared.state.Bus.{Bus}
-use Rattle.bus.specs.declared.settle.Settlement.{Settlement}
 
 -- ---- The looks
 
@@ -65,6 +64,12 @@ unfoldable pub settle_refusal : Bus → List ℕ → ℕ
 settle_refusal bus cards = first_of (settle_reasons bus cards)
 
 -- ---- The answer
+
+-- the refusal, or 0 with the settled state and how many looks that took
+pub record Settlement : Type 0 where
+  pub answer : ℕ
+  pub bus : Bus
+  pub looks : ℕ
 
 abbrev pub settle_refused : ℕ → Bus → Settlement
 settle_refused number bus = record { answer = number; bus = bus; looks = 0 }

@@ -1,11 +1,15 @@
 -- A bus set up from its chassis (01, "Refusals and their order", "The program and one whole run").
-use Rattle.std.specs.Prelude.{cond}
+use Rattle.std.specs.Prelude.{ℕ, cond}
 use Rattle.bus.specs.Refusal as Refusal
 use Rattle.bus.specs.State.{empty_chassis, free_bus}
 use Rattle.bus.specs.Sense.{codes_known}
 use Rattle.bus.specs.declared.state.Bus.{Bus}
 use Rattle.bus.specs.declared.state.Chassis.{Chassis}
-use Rattle.bus.specs.declared.state.SetupAnswer.{SetupAnswer}
+
+-- the refusal, or 0, and a bus with either
+pub record SetupAnswer : Type 0 where
+  pub answer : ℕ
+  pub bus : Bus
 
 -- the bus that comes with a refusal
 abbrev pub empty_bus : Bus

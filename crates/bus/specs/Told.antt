@@ -1,7 +1,11 @@
 -- What the code's results tell, in 01's numbers: each refusal has one, and what isn't refused is answered by 0.
-use Rattle.std.specs.Prelude.{ℕ, Result, Ok, Err}
+use Rattle.std.specs.Prelude.{ℕ, ◌≡◌, Result, Ok, Err}
 use Rattle.bus.specs.Refusal as Number
+use Rattle.bus.specs.Setup.{SetupAnswer, empty_bus}
+use Rattle.bus.specs.Settle.{Settlement, settle_refused}
 use Rattle.bus.specs.declared.refusal.Refusal.{Refusal}
+use Rattle.bus.specs.declared.settle.Settled.{Settled}
+use Rattle.bus.specs.declared.state.Bus.{Bus}
 
 abbrev pub number_of : Refusal → ℕ
 number_of Refusal.WrongBuffers = Number.wrong_buffers
@@ -19,7 +23,22 @@ number_of Refusal.WrongLineLength = Number.wrong_line_length
 number_of Refusal.WrongCharacter = Number.wrong_character
 number_of Refusal.WrongLength = Number.wrong_length
 
+-- no refusal has the number of what isn't refused, nor another one's
+abbrev pub RefusalsTold : Type 0
+RefusalsTold =
+    ((refusal : Refusal) → number_of refusal ≡ Number.accepted → ⊥) × ((one other : Refusal) → number_of one ≡ number_of other → one ≡ other)
+
 -- the number that a result is answered by, whatever it tells besides
 abbrev pub answered : {A : Type 0} → Result A Refusal → ℕ
 answered (Ok told) = Number.accepted
 answered (Err refusal) = number_of refusal
+
+-- a refused setup comes with the bus of an empty chassis
+abbrev pub set_up : Result Bus Refusal → SetupAnswer
+set_up (Ok bus) = record { answer = Number.accepted; bus = bus }
+set_up (Err refusal) = record { answer = number_of refusal; bus = empty_bus }
+
+-- a refused settle leaves the bus that it was given, and counts no look
+abbrev pub settlement : Bus → Result Settled Refusal → Settlement
+settlement bus (Ok settled) = record { answer = Number.accepted; bus = settled.bus; looks = settled.looks }
+settlement bus (Err refusal) = settle_refused (number_of refusal) bus

@@ -10,6 +10,6 @@ mod step;
 mod steps;
 
 pub use refusal::Refusal;
-pub use settle::Settlement;
-pub use state::{Bus, Chassis, EMPTY_CHASSIS, SetupAnswer};
+pub use settle::Settled;
+pub use state::{Bus, Chassis, EMPTY_CHASSIS};
 pub use step::Step;

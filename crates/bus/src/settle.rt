@@ -1,10 +1,9 @@
-// The answer of settle.
+// What settle comes to.
 use crate::state::Bus;
 
-// What settle answers: the refusal, or 0 with the settled state and how many looks that took.
+// The settled state, and how many looks that took.
 #[derive(Clone, Copy)]
-pub struct Settlement {
-    pub answer: u8,
+pub struct Settled {
     pub bus: Bus,
     pub looks: usize,
 }

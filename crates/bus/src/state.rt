@@ -42,10 +42,3 @@ impl Bus {
         }
     }
 }
-
-// What setup answers.
-#[derive(Clone, Copy)]
-pub struct SetupAnswer {
-    pub answer: u8,
-    pub bus: Bus,
-}

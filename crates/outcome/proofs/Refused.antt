@@ -35,7 +35,7 @@ use Rattle.bus.specs.Settle.{
 }
 use Rattle.bus.specs.declared.state.Bus.{Bus}
 use Rattle.bus.proofs.SenseLaws.{sense_means}
-use Rattle.bus.proofs.Settled.{answers, list_in_order}
+use Rattle.bus.proofs.SettleAnswers.{answers, list_in_order}
 use Rattle.outcome.specs.Losing.{no_line, line_lost}
 use Rattle.outcome.specs.Outcomes.{outcome_reasons, outcome_refusal, decided_at, settled_outcome, outcome_of, figures_of, figures_for}
 use Rattle.outcome.specs.Promises.{Asked, OutcomeByNumber, OutcomeRefused, AnsweredIfAsked, RefusedAsInSettle, RefusedTellsNothing}

@@ -18,8 +18,7 @@ use Rattle.bus.specs.Refusal as Refusal
 use Rattle.bus.specs.Sense.{driving_fits, standing_fits, makes_sense}
 use Rattle.bus.specs.State.{arbitration_of, lines_of}
 use Rattle.bus.specs.Steps.{after_looks_of}
-use Rattle.bus.specs.Settle.{settled_after, leading_looks, never_settles, settle_refusal, settle_of}
-use Rattle.bus.specs.declared.settle.Settlement.{Settlement}
+use Rattle.bus.specs.Settle.{Settlement, settled_after, leading_looks, never_settles, settle_refusal, settle_of}
 use Rattle.bus.specs.Examples.{four_nine_ten, first, again}
 use Rattle.bus.specs.declared.state.Bus.{Bus}
 use Rattle.bus.proofs.AsComputed.{settle_on_the_bus}

@@ -17,7 +17,7 @@ use Rattle.bus.specs.declared.state.Bus.{Bus}
 use Rattle.bus.proofs.SenseLaws.{sense_means}
 use Rattle.bus.proofs.SetUp.{setup_makes_sense}
 use Rattle.bus.proofs.Kept.{sense_kept_by_settle}
-use Rattle.bus.proofs.Settled.{settle_refused_keeps}
+use Rattle.bus.proofs.SettleAnswers.{settle_refused_keeps}
 use Rattle.judgement.specs.Refusals.{has_wrong_buffers}
 use Rattle.judgement.specs.declared.event.Event.{Event}
 use Rattle.judgement.proofs.Passed.{accepted_call}

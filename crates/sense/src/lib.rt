@@ -5,26 +5,20 @@ ghost use Rattle.std.specs.Prelude.{◌≡◌};
 ghost use Rattle.bus.specs.Sense.{codes_known, contention_fits, driving_fits, grant_fits, standing_fits, makes_sense};
 ghost use Rattle.bus.specs.State.{free_bus};
 ghost use Rattle.bus.specs.Setup.{setup_of};
+ghost use Rattle.bus.specs.Told.{set_up};
 
 use bus::numbers::*;
-use bus::{Bus, Chassis, EMPTY_CHASSIS, SetupAnswer};
+use bus::{Bus, Chassis, Refusal};
 use cards::{all_at_most, card_in, counted, is_within, some_card};
 use phases::numbers::*;
 
-// The bus that comes with a refusal is that of an empty chassis.
-pub fn setup(chassis: Chassis) -> SetupAnswer
-    ensures { result ≡ setup_of chassis }
+pub fn setup(chassis: Chassis) -> Result<Bus, Refusal>
+    ensures { set_up result ≡ setup_of chassis }
 {
     if codes_known(chassis) {
-        SetupAnswer {
-            answer: ACCEPTED,
-            bus: freed(chassis),
-        }
+        Ok(freed(chassis))
     } else {
-        SetupAnswer {
-            answer: BAD_PAGE,
-            bus: freed(EMPTY_CHASSIS),
-        }
+        Err(Refusal::BadPage)
     }
 }
 

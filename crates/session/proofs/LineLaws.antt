@@ -13,7 +13,7 @@ use Rattle.words.specs.Among.{every_listed}
 use Rattle.words.proofs.TestLaws.{true_or_false, both_of}
 use Rattle.bus.specs.Sense.{makes_sense}
 use Rattle.bus.specs.declared.state.Bus.{Bus}
-use Rattle.bus.specs.declared.state.SetupAnswer.{SetupAnswer}
+use Rattle.bus.specs.Setup.{SetupAnswer}
 use Rattle.judgement.specs.Refusals.{has_wrong_buffers}
 use Rattle.judgement.specs.declared.event.Event.{Event}
 use Rattle.events.specs.Machine.{Machine, machine}

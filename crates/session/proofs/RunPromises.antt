@@ -22,9 +22,8 @@ use Rattle.memory.specs.Cycles.{nothing}
 use Rattle.bus.specs.Refusal as Refusal
 use Rattle.bus.specs.Sense.{codes_known}
 use Rattle.bus.specs.State.{free_bus}
-use Rattle.bus.specs.Setup.{empty_bus}
+use Rattle.bus.specs.Setup.{SetupAnswer, empty_bus}
 use Rattle.bus.specs.declared.state.Bus.{Bus}
-use Rattle.bus.specs.declared.state.SetupAnswer.{SetupAnswer}
 use Rattle.events.specs.Machine.{Machine, machine}
 use Rattle.events.specs.Answers.{answer_with}
 use Rattle.judgement.specs.Judge.{reasons_against, refusal_of}

@@ -13,9 +13,8 @@ use Rattle.words.proofs.TestLaws.{true_or_false, both_of}
 use Rattle.bus.specs.Refusal.{accepted, bad_page}
 use Rattle.bus.specs.State.{empty_chassis}
 use Rattle.bus.specs.Sense.{codes_known, makes_sense}
-use Rattle.bus.specs.Setup.{empty_bus}
+use Rattle.bus.specs.Setup.{SetupAnswer, empty_bus}
 use Rattle.bus.specs.declared.state.Bus.{Bus}
-use Rattle.bus.specs.declared.state.SetupAnswer.{SetupAnswer}
 use Rattle.bus.proofs.SetUp.{setup_makes_sense}
 use Rattle.judgement.specs.Refusals.{has_wrong_buffers}
 use Rattle.events.specs.Machine.{Machine}

@@ -3,9 +3,8 @@ use Rattle.std.specs.Prelude.{ℕ, cond, List, [], eqb, replicate}
 use Rattle.phases.specs.Signal.{signals_in}
 use Rattle.memory.specs.Cycles.{nothing}
 use Rattle.bus.specs.Refusal as Refusal
-use Rattle.bus.specs.Setup.{empty_bus, setup_of}
+use Rattle.bus.specs.Setup.{SetupAnswer, empty_bus, setup_of}
 use Rattle.bus.specs.declared.state.Bus.{Bus}
-use Rattle.bus.specs.declared.state.SetupAnswer.{SetupAnswer}
 use Rattle.judgement.specs.declared.event.Event.{Event}
 use Rattle.events.specs.Machine.{Machine, machine}
 use Rattle.events.specs.Answers.{answer_with, bare_with}

@@ -1,12 +1,15 @@
 -- By whether the list is refused.
 use mathlib.Core.Path.{◌∙◌}
+use Rattle.std.proofs.Common.{arith}
+use Rattle.std.proofs.lemmas.Grind.{common_steps}
 use Rattle.bus.proofs.SettleLaws.{list_refused, list_accepted}
 use Rattle.settling.proofs.settle.Goals as goal
 
-pub returns-then-refusal-eq-ACCEPTED : goal.returns-then-refusal-eq-ACCEPTED
-returns-then-refusal-eq-ACCEPTED c =
-    c.settle_by.ensures ∙ list_accepted _ _ c.list_refusal-refusal.ensures c.if-refusal-eq-ACCEPTED.true
+pub returns-in_err-check_list : goal.returns-in_err-check_list
+returns-in_err-check_list c =
+    let refused = list_refused c.args.bus c.args.cards.now c.in_err-check_list.field-0.0 c.in_err-check_list.ensures in
+    grind (arith, common_steps)
 
-pub returns-else-refusal-eq-ACCEPTED : goal.returns-else-refusal-eq-ACCEPTED
-returns-else-refusal-eq-ACCEPTED c =
-    list_refused _ _ c.list_refusal-refusal.ensures c.if-refusal-eq-ACCEPTED.false
+pub returns : goal.returns
+returns c =
+    c.settle_by.ensures ∙ list_accepted _ _ c.in_ok-check_list.ensures

@@ -6,9 +6,9 @@ use Rattle.bus.specs.Steps.{after_looks_of}
 use Rattle.bus.proofs.SettleLaws.{NotBefore}
 use Rattle.settling.proofs.settle_by.Given as goal
 
-abbrev pub invariant-loop-start : goal.invariant-loop-start
-invariant-loop-start l =
-    (l.n ≤ length l.cards) × ((l.bus ≡ after_looks_of l.start (take l.n l.cards)) × NotBefore l.start l.cards l.n)
+abbrev pub invariant-loop-bus : goal.invariant-loop-bus
+invariant-loop-bus l =
+    (l.n ≤ length l.cards) × ((l.bus ≡ after_looks_of l.fn.start (take l.n l.cards)) × NotBefore l.fn.start l.cards l.n)
 
-abbrev pub decreases-loop-start : goal.decreases-loop-start
-decreases-loop-start l = length l.cards - l.n
+abbrev pub decreases-loop-bus : goal.decreases-loop-bus
+decreases-loop-bus l = length l.cards - l.n

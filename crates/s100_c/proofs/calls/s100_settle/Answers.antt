@@ -4,9 +4,8 @@ use lib.ListN.{length}
 use borrow.Author.Tests.{eq-eqb, ne_eqb}
 use Rattle.words.proofs.TestLaws.{then_pick, else_pick}
 use Rattle.bus.specs.Refusal.{wrong_length}
-use Rattle.bus.specs.Settle.{settle_of}
+use Rattle.bus.specs.Settle.{Settlement, settle_of}
 use Rattle.bus.specs.declared.state.Bus.{Bus}
-use Rattle.bus.specs.declared.settle.Settlement.{Settlement}
 use Rattle.s100_c.specs.Layout.{state_size, state_bytes, bus_in}
 use Rattle.s100_c.proofs.calls.s100_settle.Goals as goal
 

@@ -7,8 +7,7 @@ use lib.Seq.{take_all}
 use Rattle.words.proofs.TestLaws.{then_pick, else_pick}
 use Rattle.bus.specs.Refusal.{wrong_length}
 use Rattle.bus.specs.State.{chassis}
-use Rattle.bus.specs.Setup.{setup_of}
-use Rattle.bus.specs.declared.state.SetupAnswer.{SetupAnswer}
+use Rattle.bus.specs.Setup.{SetupAnswer, setup_of}
 use Rattle.s100_c.specs.Layout.{state_bytes}
 use Rattle.s100_c.proofs.CallLaws.{setup_fits_holds}
 use Rattle.s100_c.proofs.calls.s100_setup.Goals as goal

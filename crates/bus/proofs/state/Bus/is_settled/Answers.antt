@@ -1,5 +1,4 @@
 -- The contenders passed would go on driving what they drive.
-use Prim.Native.Nat.{◌-◌}
 use native.Mathlib.Omega.{arith}
 use Rattle.words.specs.Below.{all_below}
 use Rattle.words.proofs.BelowLaws.{all_start, all_next, at_bound}

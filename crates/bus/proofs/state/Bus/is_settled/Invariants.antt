@@ -6,7 +6,6 @@ use lib.Dec.{eqb}
 use lib.ListN.{get_or}
 use Rattle.words.specs.Below.{all_below}
 use Rattle.lines.specs.Look.{look}
-use Rattle.lines.specs.Arbitration.{settled}
 use Rattle.cards.specs.Cards.{card_in}
 use Rattle.bus.specs.State.{lines_of}
 use Rattle.bus.proofs.state.Bus.is_settled.Given as goal

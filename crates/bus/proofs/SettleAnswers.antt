@@ -22,6 +22,7 @@ use Rattle.bus.specs.Sense.{codes_known, makes_sense, is_senseless}
 use Rattle.bus.specs.Setup.{setup_of}
 use Rattle.bus.specs.Steps.{after_looks_of}
 use Rattle.bus.specs.Settle.{
+  Settlement,
   settled_after,
   leading_looks,
   never_settles,
@@ -39,7 +40,6 @@ use Rattle.bus.specs.Settle.{
 use Rattle.bus.specs.Promises.{SettledBy, SettleRefusedKeeps, SettleCountsLeast, SettleByNumber, NoBuffersThere, SettleUnsettled, FourRoundsListed}
 use Rattle.bus.specs.declared.state.Bus.{Bus}
 use Rattle.bus.specs.declared.state.Chassis.{Chassis}
-use Rattle.bus.specs.declared.settle.Settlement.{Settlement}
 use Rattle.bus.proofs.Granting.{highest_there, four_rounds}
 use Rattle.bus.proofs.SettleLaws.{judged}
 
