@@ -1,7 +1,8 @@
--- Read in this order: the phases and the kinds of events; the signals true in each phase; who drives which lines; status by kind of cycle;
--- control outputs; what is promised; the tables, entry by entry.
+-- Read in this order: the phases and the kinds of events, by number and by name; the signals true in each phase; who drives which lines; status
+-- by kind of cycle; control outputs; what is promised; the tables, entry by entry.
 pub mod Phase
 pub mod Kind
+pub mod Kinds
 pub mod Signal
 pub mod Driver
 pub mod Status
