@@ -25,11 +25,10 @@ use Rattle.judgement.specs.Refusals.{
   is_absent,
 }
 use Rattle.judgement.specs.Table.{row_of}
-use Rattle.judgement.specs.Judge.{sound_refusal, refusal_of, number_given, verdict_on, sound_verdict}
+use Rattle.judgement.specs.Judge.{Refused, Takes, sound_refusal, refusal_of, number_given, verdict_on, sound_verdict}
 use Rattle.judgement.specs.Promises.{VerdictNumber, VerdictStep, LengthsAsked, MemoryAbsent, PortAbsent}
 use Rattle.judgement.specs.declared.event.Event.{Event}
 use Rattle.bus.specs.declared.step.Step.{Step}
-use Rattle.judgement.specs.declared.verdict.Verdict.TheVariants.{Refused, Takes}
 
 module _ (bus : Bus) (event : Event) where
   -- no reason of a sound call applies

@@ -1,6 +1,6 @@
 -- The table's rows and its columns, and the pages.
 use Prim.Native.Nat.{ℕ, ◌/◌, ◌<◌, ◌≤◌}
-use mathlib.Core.Path.{◌≡◌, refl, sym, ap, ap₂, ◌∙◌}
+use mathlib.Core.Path.{◌≡◌, refl, sym, ap, ◌∙◌}
 use mathlib.Core.Bool.{Bool, true, false, not, cond, ◌&&◌, ◌||◌, true≢false}
 use mathlib.Core.List.{List}
 use native.Mathlib.Decide.{dec_lt}
@@ -10,11 +10,11 @@ use lib.ListN.{length, get_or-eq_default}
 use borrow.Author.Tests.{le-leb, lt-leb, le-ltb}
 use Rattle.words.specs.Below.{all_below}
 use Rattle.words.specs.Among.{beside, has_beside, every_row}
-use Rattle.words.proofs.BelowLaws.{same_below, same_tests_below}
+use Rattle.words.proofs.BelowLaws.{same_tests_below}
 use Rattle.words.proofs.RowLaws.{EachRow, end, ◌and◌, by_rows, rows_pass, no_row_beside, rows_only}
 use Rattle.phases.specs.Phase as Phase
 use Rattle.phases.specs.Kind as Kind
-use Rattle.judgement.specs.Table.{Row, row, master, table, has_row, row_of, no_row, lists_speaker, lists_address, most_datum, is_cycle_step, is_cycle}
+use Rattle.judgement.specs.Table.{Row, row, master, table, has_row, row_of, no_row, lists_speaker, lists_address, is_cycle_step, is_cycle}
 use Rattle.judgement.specs.Refusals.{page_at}
 use Rattle.judgement.specs.Promises.{EachKindHasItsRow, CycleKinds}
 use Rattle.bus.specs.declared.step.Step.{Step}

@@ -4,6 +4,7 @@ use Rattle.words.specs.First.{Reason, reason, first_of}
 use Rattle.bus.specs.Refusal as Refusal
 use Rattle.bus.specs.Sense.{is_senseless}
 use Rattle.bus.specs.declared.state.Bus.{Bus}
+use Rattle.bus.specs.declared.step.Step.{Step}
 use Rattle.judgement.specs.Table.{row_of}
 use Rattle.judgement.specs.Refusals.{
   has_wrong_buffers,
@@ -17,8 +18,6 @@ use Rattle.judgement.specs.Refusals.{
   is_absent,
 }
 use Rattle.judgement.specs.declared.event.Event.{Event}
-use Rattle.judgement.specs.declared.verdict.Verdict.{Verdict}
-use Rattle.judgement.specs.declared.verdict.Verdict.TheVariants.{Refused, Takes}
 
 -- from 06 on
 abbrev pub turn_reasons : Bus → Event → List Reason
@@ -52,6 +51,11 @@ unfoldable pub refusal_of : List ℕ → List ℕ → Bus → Event → ℕ
 refusal_of memory ports bus event = first_of (reasons_against memory ports bus event)
 
 -- ---- The verdict
+
+-- a refusal by its number, or the step to take
+pub data Verdict : Type 0 where
+  Refused : ℕ → Verdict
+  Takes : Step → Verdict
 
 -- the number that is answered
 abbrev pub number_given : Verdict → ℕ

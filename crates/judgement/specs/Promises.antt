@@ -5,9 +5,8 @@ use Rattle.bus.specs.Refusal as Refusal
 use Rattle.bus.specs.declared.state.Bus.{Bus}
 use Rattle.judgement.specs.Table.{has_row, row_of, is_cycle}
 use Rattle.judgement.specs.Refusals.{has_wrong_buffers, is_absent}
-use Rattle.judgement.specs.Judge.{sound_refusal, number_given, sound_verdict}
+use Rattle.judgement.specs.Judge.{Takes, sound_refusal, number_given, sound_verdict}
 use Rattle.judgement.specs.declared.event.Event.{Event}
-use Rattle.judgement.specs.declared.verdict.Verdict.TheVariants.{Takes}
 
 -- The kinds from 01 to 0F have a row, and no others do;
 abbrev pub EachKindHasItsRow : Type 0

@@ -1,8 +1,6 @@
-// The event, and the verdict on it: a refusal, or the step that it takes.
+// The event. The verdict on it, a refusal or the step that it takes, is a definition in specs/.
 #![tactic(auto)]
 
 mod event;
-mod verdict;
 
 pub use event::{Event, PERMANENT_MASTER};
-pub use verdict::Verdict;

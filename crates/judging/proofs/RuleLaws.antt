@@ -16,7 +16,7 @@ use Rattle.phases.specs.Kind as Kind
 use Rattle.bus.specs.Refusal as Refusal
 use Rattle.bus.specs.declared.step.Step.{Step}
 use Rattle.judgement.specs.Table.{has_row, is_cycle}
-use Rattle.judgement.specs.declared.verdict.Verdict.TheVariants.{Refused, Takes}
+use Rattle.judgement.specs.Judge.{Refused, Takes}
 use Rattle.judgement.proofs.TableLaws.{CycleRow, no_row_holds, cycle_row, each_kind_has_its_row, cycle_kinds}
 use Rattle.judging.specs.Turns.{ruled_of}
 

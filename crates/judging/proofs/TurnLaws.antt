@@ -14,11 +14,9 @@ use Rattle.bus.specs.Refusal as Refusal
 use Rattle.bus.specs.declared.state.Bus.{Bus}
 use Rattle.judgement.specs.Table.{Row, has_turn, row_of}
 use Rattle.judgement.specs.Refusals.{is_malformed, names_nobody, names_unfitted, is_wrong_phase}
-use Rattle.judgement.specs.Judge.{turn_reasons, sound_refusal, sound_verdict}
+use Rattle.judgement.specs.Judge.{Verdict, Refused, Takes, turn_reasons, sound_refusal, sound_verdict}
 use Rattle.judging.specs.Turns.{turn_of, ruled_of, asked_of}
 use Rattle.judgement.specs.declared.event.Event.{Event}
-use Rattle.judgement.specs.declared.verdict.Verdict.{Verdict}
-use Rattle.judgement.specs.declared.verdict.Verdict.TheVariants.{Refused, Takes}
 use Rattle.judgement.proofs.TableLaws.{by_row}
 
 -- a number where a test holds, and else a later one: the verdict is that refusal, or the later verdict

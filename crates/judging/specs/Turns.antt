@@ -1,17 +1,17 @@
 -- The judgement from 06 on, by the step: what kind and phase say together, and what is left to ask then.
-use Rattle.std.specs.Prelude.{ℕ, Bool, cond, not, eqb}
+use Rattle.std.specs.Prelude.{ℕ, Bool, cond, not, eqb, Result, Ok, Err}
 use Rattle.words.specs.First.{first_of}
 use Rattle.cards.specs.Cards.{card_in}
 use Rattle.bus.specs.Refusal as Refusal
 use Rattle.bus.specs.State.{is_settled}
+use Rattle.bus.specs.Told.{number_of}
+use Rattle.bus.specs.declared.refusal.Refusal as Declared
 use Rattle.bus.specs.declared.state.Bus.{Bus}
 use Rattle.bus.specs.declared.step.Step.{Step}
 use Rattle.judgement.specs.Table.{master_of, row_of}
 use Rattle.judgement.specs.Refusals.{is_odd_word, is_absent}
-use Rattle.judgement.specs.Judge.{turn_reasons, verdict_on}
+use Rattle.judgement.specs.Judge.{Verdict, Refused, Takes, turn_reasons, verdict_on}
 use Rattle.judgement.specs.declared.event.Event.{Event}
-use Rattle.judgement.specs.declared.verdict.Verdict.{Verdict}
-use Rattle.judgement.specs.declared.verdict.Verdict.TheVariants.{Refused, Takes}
 
 -- from 06 on
 unfoldable pub turn_of : Bus → Event → Verdict
@@ -22,6 +22,11 @@ unfoldable pub ruled_of : ℕ → ℕ → Verdict
 ruled_of kind phase = cond ((row_of kind).allows phase) (Takes (row_of kind).step) (Refused Refusal.wrong_phase)
 
 -- ---- From 07 on
+
+-- a verdict, unless a test of the code's refuses
+abbrev pub unless_refused : Verdict → Result Unit Declared.Refusal → Verdict
+unless_refused verdict (Ok passed) = verdict
+unless_refused verdict (Err refusal) = Refused (number_of refusal)
 
 -- 07, unless the speaker has its turn
 abbrev pub in_turn : Bool → Verdict → Verdict

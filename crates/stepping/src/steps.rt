@@ -1,15 +1,16 @@
 // The step of an event.
 ghost use Rattle.std.specs.Prelude.{◌≡◌};
+ghost use Rattle.bus.specs.Told.{number_of};
 ghost use Rattle.events.specs.Answers.{refused_with};
 ghost use Rattle.events.specs.Machine.{machine};
 ghost use Rattle.events.specs.Step.{bus_by, taken_by, answer_by, stepped, after, step_of, sound_after, sound_step_of};
 
 use crate::answering::{answer_with, bare, signals_with};
 use crate::cycles::cycle;
-use bus::numbers::*;
-use bus::{Bus, Step};
+use bus::numbers::ACCEPTED;
+use bus::{Bus, Refusal, Step};
 use events::Stepped;
-use judgement::{Event, Verdict};
+use judgement::Event;
 use judging::{judge, page_at};
 use memory::{Moved, Slave};
 use sense::makes_sense;
@@ -40,10 +41,9 @@ pub fn sound_step(bus: Bus, event: Event, memory: &mut [u8], ports: &mut [u8]) -
     ensures memory_left { memory.new ≡ (sound_after (machine bus memory.old ports.old) event).memory }
     ensures ports_left { ports.new ≡ (sound_after (machine bus memory.old ports.old) event).ports }
 {
-    let verdict = judge(bus, event);
-    match verdict {
-        Verdict::Refused(number) => refused(number, bus),
-        Verdict::Takes(step) => accepted(step, bus, event, memory, ports),
+    match judge(bus, event) {
+        Ok(step) => accepted(step, bus, event, memory, ports),
+        Err(refusal) => refused(refusal, bus),
     }
 }
 
@@ -53,30 +53,26 @@ pub fn step(bus: Bus, event: Event, memory: &mut [u8], ports: &mut [u8]) -> Step
     ensures memory_left { memory.new ≡ (after (machine bus memory.old ports.old) event).memory }
     ensures ports_left { ports.new ≡ (after (machine bus memory.old ports.old) event).ports }
 {
-    if (memory.len() == 0x10000) & (ports.len() == 0x100) {
-        if makes_sense(bus) {
-            sound_step(bus, event, memory, ports)
-        } else {
-            refused(SENSELESS, bus)
-        }
-    } else {
-        refused(WRONG_BUFFERS, bus)
+    if (memory.len() != 0x10000) | (ports.len() != 0x100) {
+        return refused(Refusal::WrongBuffers, bus);
     }
+    if !makes_sense(bus) {
+        return refused(Refusal::Senseless, bus);
+    }
+    sound_step(bus, event, memory, ports)
 }
 
 // A refused event leaves the bus as it was.
-fn refused(refusal: u8, bus: Bus) -> Stepped
-    ensures { result ≡ stepped bus (refused_with refusal bus) }
+fn refused(refusal: Refusal, bus: Bus) -> Stepped
+    ensures { result ≡ stepped bus (refused_with (number_of refusal) bus) }
 {
-    if refusal <= SENSELESS {
-        Stepped {
-            bus: bus,
-            answer: bare(refusal),
-        }
-    } else {
-        Stepped {
-            bus: bus,
-            answer: answer_with(refusal, bus, signals(bus.phase), 0, Moved::NOTHING),
-        }
+    let number = u8::from(refusal);
+    let answer = match refusal {
+        Refusal::WrongBuffers | Refusal::Senseless => bare(number),
+        _ => answer_with(number, bus, signals(bus.phase), 0, Moved::NOTHING),
+    };
+    Stepped {
+        bus: bus,
+        answer: answer,
     }
 }

@@ -19,12 +19,11 @@ returns-then-names_unfitted c =
       sym c.names_unfitted.ensures ∙ c.if-names_unfitted.true,
     )
 
-pub returns-else-names_unfitted : goal.returns-else-names_unfitted
-returns-else-names_unfitted c =
+pub returns : goal.returns
+returns c =
     rw (
       sound_chain _ _,
       sym c.is_malformed.ensures ∙ c.if-is_malformed.false,
       sym c.names_nobody.ensures ∙ c.if-names_nobody.false,
-      sym
-          c.names_unfitted.ensures ∙ c.if-names_unfitted.false,
+      sym c.names_unfitted.ensures ∙ c.if-names_unfitted.false,
     ) c.turn.ensures

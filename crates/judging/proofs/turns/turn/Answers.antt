@@ -1,6 +1,7 @@
 -- What kind and phase say, and then what the step asks for.
-use mathlib.Core.Path.{◌≡◌, sym, ap, ◌∙◌}
-use Rattle.judgement.specs.declared.verdict.Verdict.{Verdict}
+use mathlib.Core.Path.{◌≡◌, ap, ◌∙◌}
+use Rattle.std.proofs.lemmas.Result.{err_from_is_err_and}
+use Rattle.judgement.specs.Judge.{Verdict}
 use Rattle.judging.specs.Turns.{turn_of}
 use Rattle.judging.proofs.TurnLaws.{asked_after, turn_asks}
 use Rattle.bus.specs.declared.state.Bus.{Bus}
@@ -9,12 +10,18 @@ use Rattle.judging.specs.Turns.{ruled_of}
 use Rattle.judging.proofs.turns.turn.Goals as goal
 
 -- what is asked after a verdict of `ruled` is the judgement
-judged : (bus : Bus) (event : Event) (ruled verdict : Verdict) → ruled ≡ ruled_of event.kind bus.phase → ruled ≡ verdict
-    → asked_after bus event verdict ≡ turn_of bus event
-judged bus event ruled verdict is e = ap (asked_after bus event) (sym e ∙ is) ∙ turn_asks _ _
+judged : (bus : Bus) (event : Event) (verdict : Verdict) → verdict ≡ ruled_of event.kind bus.phase → asked_after bus event verdict ≡ turn_of bus event
+judged bus event verdict is = ap (asked_after bus event) is ∙ turn_asks _ _
 
-pub returns-in-Refused : goal.returns-in-Refused
-returns-in-Refused c = judged c.args.bus c.args.event _ _ c.ruled-verdict.ensures c.in-Refused.is
+pub returns-in_err-step : goal.returns-in_err-step
+returns-in_err-step c =
+    let told = err_from_is_err_and c.from_residual.result c.from_residual.ensures.1 in
+    rw (told.1, told.2) (judged c.args.bus c.args.event _ c.in_err-step.ensures)
 
-pub returns-in-Takes : goal.returns-in-Takes
-returns-in-Takes c = c.asked.ensures ∙ judged c.args.bus c.args.event _ _ c.ruled-verdict.ensures c.in-Takes.is
+pub returns-in_err-asked : goal.returns-in_err-asked
+returns-in_err-asked c =
+    let told = err_from_is_err_and c.from_residual-in_err-asked.result c.from_residual-in_err-asked.ensures.1 in
+    rw (told.1, told.2) (c.in_err-asked.ensures ∙ judged c.args.bus c.args.event _ c.in_ok-step.ensures)
+
+pub returns : goal.returns
+returns c = c.in_ok-asked.ensures ∙ judged c.args.bus c.args.event _ c.in_ok-step.ensures
