@@ -33,11 +33,10 @@ use Rattle.pins.specs.BusLine.{is_driven, is_true}
 use Rattle.pins.specs.Pin.{pin_table, pin_at}
 use Rattle.pins.specs.Moments.{idle_moment, byte_moment, word_moment, even_moment, odd_moment}
 use Rattle.pins.specs.Picture.{picture_digits, picture_of, lines_for}
-use Rattle.pins.specs.ReadAgain.{true_on, signals_on, priority_lines_on, phase_unknown, phase_with, seen, picture_in}
+use Rattle.pins.specs.ReadAgain.{Seen, true_on, signals_on, priority_lines_on, phase_unknown, phase_with, seen, picture_in}
 use Rattle.pins.specs.Promises.{signals_by_pins, priority_by_pins, phase_of_signals}
 use Rattle.pins.specs.Promises.{ReadsBack, AlikePictured, FiftyDigitsRead, BadPictureRefused, pictures}
 use Rattle.pins.specs.declared.moments.Moment.{Moment}
-use Rattle.pins.specs.declared.moments.Seen.{Seen}
 use Rattle.pins.proofs.DigitLaws.{picture_long}
 use Rattle.pins.proofs.PinLaws.{high_is, driven_is}
 use Rattle.pins.proofs.GatherLaws.{signals_in_order, lines_in_order}

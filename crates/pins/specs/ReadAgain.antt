@@ -9,7 +9,14 @@ use Rattle.text.specs.Faults.{fault_of}
 use Rattle.pins.specs.BusLine.{BusLine, address, data_out, data_in, priority, pulled_up, status, word_request, control, memory_write, unmodelled}
 use Rattle.pins.specs.Pin.{Pin, pin_table}
 use Rattle.pins.specs.Picture.{level_digits, picture_digits}
-use Rattle.pins.specs.declared.moments.Seen.{Seen}
+
+-- What the pins of a picture tell, or why its line can't be read; behind 0D the column of its first wrong character, and else 0.
+pub record Seen : Type 0 where
+  pub refusal : ℕ
+  pub phase : ℕ
+  pub signals : ℕ
+  pub lines : ℕ
+  pub column : ℕ
 
 -- ---- Pins on a line of digits
 

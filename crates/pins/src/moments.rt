@@ -20,12 +20,11 @@ pub struct Moment {
     pub dinDriven: bool,
 }
 
-// What the pins of a picture tell, or why its line can't be read; behind 0D the column of its first wrong character, and else 0.
-#[derive(Clone, Copy)]
+// What the pins of a picture tell.
+#[derive(Clone, Copy, Debug, PartialEq, Eq)]
 pub struct Seen {
-    pub refusal: u8,
-    pub phase: u8,
+    // None where no phase has the signals.
+    pub phase: Option<u8>,
     pub signals: u8,
     pub lines: u8,
-    pub column: u8,
 }

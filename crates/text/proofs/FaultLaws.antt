@@ -14,9 +14,8 @@ use Rattle.words.proofs.TestLaws.{true_or_false, both_of}
 use Rattle.words.proofs.ListLaws.{every_at, every_of}
 use Rattle.words.proofs.FirstLaws.{least_passes, least_first, least_within, least_is}
 use Rattle.bus.specs.Refusal.{accepted, wrong_character, wrong_line_length}
-use Rattle.text.specs.declared.frames.Fault.{Fault}
 use Rattle.text.specs.Digits.{is_digit, is_digits}
-use Rattle.text.specs.Faults.{fault, leading_digits, wrong_column, fault_of}
+use Rattle.text.specs.Faults.{Fault, fault, leading_digits, wrong_column, fault_of}
 use Rattle.text.specs.Promises.{FirstWrong, FaultsTold}
 use Rattle.text.proofs.DigitLaws.{not_all}
 

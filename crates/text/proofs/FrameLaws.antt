@@ -13,13 +13,10 @@ use Rattle.words.specs.Among.{every_listed}
 use Rattle.words.proofs.TestLaws.{true_or_false, both_of}
 use Rattle.words.proofs.ListLaws.{every_at}
 use Rattle.judgement.specs.declared.event.Event.{Event}
-use Rattle.text.specs.declared.frames.BadLine.{BadLine}
-use Rattle.text.specs.declared.frames.Line.{Line}
-use Rattle.text.specs.declared.frames.Line.TheVariants.{Frame, Bad, Unended}
 use Rattle.text.specs.Digits.{is_digit, is_digits}
 use Rattle.text.specs.Newlines.{newline, has_newline, first_line}
 use Rattle.text.specs.Faults.{fault, leading_digits, fault_of}
-use Rattle.text.specs.Frames.{event_digits, event_in, bad_line, line_in, next_line, line_number, line_column, line_bytes}
+use Rattle.text.specs.Frames.{BadLine, Line, Frame, Bad, Unended, event_digits, event_in, bad_line, line_in, next_line, line_number, line_column, line_bytes}
 use Rattle.text.specs.Promises.{LinesTold}
 use Rattle.text.proofs.DigitLaws.{digit_kinds}
 use Rattle.text.proofs.FaultLaws.{leading_within, leading_digits_holds, leads_all, all_digits_of, no_fault}

@@ -4,12 +4,10 @@ use Rattle.bus.specs.State.{chassis}
 use Rattle.judgement.specs.Table.{event_of}
 use Rattle.events.specs.declared.answers.Answer.{Answer}
 use Rattle.outcome.specs.Outcomes.{figures}
-use Rattle.text.specs.declared.frames.BadLine.{BadLine}
-use Rattle.text.specs.declared.frames.Line.{Line}
 use Rattle.text.specs.Digits.{is_digit, value_of, digit_of, is_digits}
 use Rattle.text.specs.Faults.{fault, fault_of}
 use Rattle.text.specs.Newlines.{newline, text_lines}
-use Rattle.text.specs.Frames.{event_in, setup_in, longest, next_line}
+use Rattle.text.specs.Frames.{BadLine, Line, event_in, setup_in, longest, next_line}
 use Rattle.text.specs.AnswerLine.{answer_line, answer_length, printed, bytes_put}
 use Rattle.text.specs.OutcomeLine.{outcome_line, outcome_length, outcome_bytes_put}
 use Rattle.text.specs.Reading.{Reader, answers_to, first_taken, taken_off, held_of}

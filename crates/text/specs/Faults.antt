@@ -3,8 +3,13 @@ use Rattle.std.specs.Prelude.{ℕ, suc, cond, not, List, eqb, length, get_or}
 use Rattle.words.specs.Among.{every_listed}
 use Rattle.words.specs.First.{least_below}
 use Rattle.bus.specs.Refusal.{accepted, wrong_line_length, wrong_character}
-use Rattle.text.specs.declared.frames.Fault.{Fault}
 use Rattle.text.specs.Digits.{is_digit}
+
+-- What is wrong with a line: its number, and the column of its first wrong character, counted from 1. Where no character is to blame the column
+-- is 0, and where nothing is wrong the number too.
+pub record Fault : Type 0 where
+  pub refusal : ℕ
+  pub column : ℕ
 
 abbrev pub fault : ℕ → ℕ → Fault
 fault refusal column = record { refusal = refusal; column = column }

@@ -6,13 +6,28 @@ use Rattle.bus.specs.State.{chassis, empty_chassis}
 use Rattle.bus.specs.declared.state.Chassis.{Chassis}
 use Rattle.judgement.specs.Table.{event_of}
 use Rattle.judgement.specs.declared.event.Event.{Event}
-use Rattle.text.specs.declared.frames.BadLine.{BadLine}
-use Rattle.text.specs.declared.frames.Line.{Line}
-use Rattle.text.specs.declared.frames.Line.TheVariants.{Frame, Bad, Unended}
-use Rattle.text.specs.declared.frames.SetupLine.{SetupLine}
 use Rattle.text.specs.Digits.{value_of, number_of, is_digits}
-use Rattle.text.specs.Faults.{fault, fault_of}
+use Rattle.text.specs.Faults.{Fault, fault, fault_of}
 use Rattle.text.specs.Newlines.{has_newline, first_line}
+
+-- a line that is no event's: its bytes, and what is wrong with it
+pub record BadLine : Type 0 where
+  pub size : ℕ
+  pub fault : Fault
+
+-- What a text begins with.
+pub data Line : Type 0 where
+  -- a line with an event
+  Frame : Event → Line
+  -- another line
+  Bad : BadLine → Line
+  -- a line that isn't ended yet
+  Unended : Line
+
+-- what setup is given by its line, empty where there is a fault
+pub record SetupLine : Type 0 where
+  pub fault : Fault
+  pub chassis : Chassis
 
 -- so many digits of a line from a place on
 abbrev pub digits_from : ℕ → ℕ → List ℕ → List ℕ

@@ -1,6 +1,5 @@
-// The two kinds of line that are read: where each field begins on them, and what a text begins with.
-use bus::Chassis;
-use judgement::Event;
+// The two kinds of line that are read: where each field begins on them, and what is told of a line that is no event's.
+use crate::fault::Fault;
 
 // The byte that ends a line.
 pub const NEWLINE: u8 = 0x0A;
@@ -26,35 +25,9 @@ pub const SETUP_DIGITS: usize = PAGES_AT + 16;
 // No right line is longer.
 pub const LONGEST: usize = SETUP_DIGITS;
 
-// What is wrong with a line: its number, and the column of its first wrong character, counted from 1. Where no character is to blame the column
-// is 0, and where nothing is wrong the number too.
-#[derive(Clone, Copy)]
-pub struct Fault {
-    pub refusal: u8,
-    pub column: u8,
-}
-
 // A line that is no event's: its bytes, and what is wrong with it.
-#[derive(Clone, Copy)]
+#[derive(Clone, Copy, Debug, PartialEq, Eq)]
 pub struct BadLine {
     pub size: usize,
     pub fault: Fault,
-}
-
-// What a text begins with.
-#[derive(Clone, Copy)]
-pub enum Line {
-    // A line with an event.
-    Frame(Event),
-    // Another line.
-    Bad(BadLine),
-    // A line that isn't ended yet.
-    Unended,
-}
-
-// What setup is given by its line, empty where there is a fault.
-#[derive(Clone, Copy)]
-pub struct SetupLine {
-    pub fault: Fault,
-    pub chassis: Chassis,
 }
