@@ -20,7 +20,7 @@ use Rattle.runs.specs.Run.{call, bus_after}
 use Rattle.runs.specs.Promises.{right_acknowledge}
 use Rattle.runs.proofs.DemandThree.{grants_next}
 use Rattle.outcome.specs.Losing.{no_line, line_lost}
-use Rattle.outcome.specs.Outcomes.{loss, decided_at, settled_outcome, outcome_of, figures_of}
+use Rattle.outcome.specs.Outcomes.{loss, decided_at, settled_outcome, outcome_of, figures_of, Outcome, Refused, Wins, Loses}
 use Rattle.outcome.specs.Promises.{
   Asked,
   SettledArbitration,
@@ -34,8 +34,6 @@ use Rattle.outcome.specs.Promises.{
   ReasonIsTrue,
   RivalIsTheWinner,
 }
-use Rattle.outcome.specs.declared.figures.Outcome.{Outcome}
-use Rattle.outcome.specs.declared.figures.Outcome.TheVariants.{Refused, Wins, Loses}
 use Rattle.outcome.proofs.Parting.{PartAt, part_at, never_parts}
 use Rattle.outcome.proofs.Refused.{decided, of_asked, answered_if_asked}
 use Rattle.outcome.proofs.Rivals.{winner_is, winner_low, winner_drives, rival_is}

@@ -4,3 +4,4 @@ pub mod Decided
 pub mod Parting
 pub mod Refused
 pub mod Rivals
+pub mod ToldLaws

@@ -37,9 +37,8 @@ use Rattle.bus.specs.declared.state.Bus.{Bus}
 use Rattle.bus.proofs.SenseLaws.{sense_means}
 use Rattle.bus.proofs.SettleAnswers.{answers, list_in_order}
 use Rattle.outcome.specs.Losing.{no_line, line_lost}
-use Rattle.outcome.specs.Outcomes.{outcome_reasons, outcome_refusal, decided_at, settled_outcome, outcome_of, figures_of, figures_for}
+use Rattle.outcome.specs.Outcomes.{outcome_reasons, outcome_refusal, decided_at, settled_outcome, outcome_of, figures_of, figures_for, Refused}
 use Rattle.outcome.specs.Promises.{Asked, OutcomeByNumber, OutcomeRefused, AnsweredIfAsked, RefusedAsInSettle, RefusedTellsNothing}
-use Rattle.outcome.specs.declared.figures.Outcome.TheVariants.{Refused}
 
 module _ (bus : Bus) (card : ℕ) where
   -- ---- The two ways to answer

@@ -10,8 +10,6 @@ use Rattle.bus.specs.declared.state.Bus.{Bus}
 use Rattle.outcome.specs.Losing.{no_line, line_lost, rival_at}
 use Rattle.outcome.specs.declared.figures.Figures.{Figures}
 use Rattle.outcome.specs.declared.figures.Loss.{Loss}
-use Rattle.outcome.specs.declared.figures.Outcome.{Outcome}
-use Rattle.outcome.specs.declared.figures.Outcome.TheVariants.{Refused, Wins, Loses}
 
 -- ---- The refusals, the lowest number first
 
@@ -29,6 +27,12 @@ unfoldable pub outcome_refusal : Bus → ℕ → ℕ
 outcome_refusal bus card = first_of (outcome_reasons bus card)
 
 -- ---- The outcome
+
+pub data Outcome : Type 0 where
+  -- by the number of the refusal
+  Refused : ℕ → Outcome
+  Wins : Outcome
+  Loses : Loss → Outcome
 
 abbrev pub loss : ℕ → ℕ → Loss
 loss line rival = record { line = line; rival = rival }

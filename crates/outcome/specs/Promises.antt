@@ -12,8 +12,7 @@ use Rattle.bus.specs.Promises.{Sensible}
 use Rattle.bus.specs.declared.state.Bus.{Bus}
 use Rattle.runs.specs.Run.{call, refusal_on, bus_after}
 use Rattle.runs.specs.Promises.{right_acknowledge, Right, Arbitrates}
-use Rattle.outcome.specs.Outcomes.{outcome_reasons, loss, outcome_of, figures, figures_for}
-use Rattle.outcome.specs.declared.figures.Outcome.TheVariants.{Wins, Loses}
+use Rattle.outcome.specs.Outcomes.{outcome_reasons, loss, outcome_of, figures, figures_for, Wins, Loses}
 
 -- ---- When it is refused
 

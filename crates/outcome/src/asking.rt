@@ -1,86 +1,84 @@
 // Why a card wins or loses, asked of a state.
-ghost use Rattle.std.specs.Prelude.{◌≡◌, ◌&&◌, not, ◌<◌};
-ghost use Rattle.outcome.specs.Losing.{line_lost, rival_at};
+ghost use Rattle.std.specs.Prelude.{◌≡◌, ◌<◌, unwrap_or, IfSome};
+ghost use Rattle.bus.specs.State.{nobody};
+ghost use Rattle.bus.specs.Told.{answered};
+ghost use Rattle.outcome.specs.Losing.{no_line, line_lost, rival_at};
 ghost use Rattle.outcome.specs.Outcomes.{outcome_refusal, settled_outcome, outcome_of};
+ghost use Rattle.outcome.specs.Told.{outcome_in};
 
-use crate::figures::{Loss, NO_LINE, Outcome};
-use bus::Bus;
-use bus::numbers::*;
+use crate::figures::{Loss, Outcome};
+use bus::numbers::NOBODY;
+use bus::{Bus, Refusal};
 use cards::card_in;
-use phases::numbers::*;
+use phases::numbers::ARBITRATION;
 use sense::makes_sense;
 
 // The state is only read.
-pub fn outcome_for(bus: Bus, card: u8) -> Outcome
-    ensures { result ≡ outcome_of bus card }
+pub fn outcome_for(bus: Bus, card: u8) -> Result<Outcome, Refusal>
+    ensures { outcome_in result ≡ outcome_of bus card }
 {
-    let refusal = outcome_refusal(bus, card);
-    if refusal == ACCEPTED {
-        settled_outcome(bus, card)
-    } else {
-        Outcome::Refused(refusal)
-    }
+    check_asked(bus, card)?;
+    Ok(settled_outcome(bus, card))
 }
 
-fn outcome_refusal(bus: Bus, card: u8) -> u8
-    ensures { result ≡ outcome_refusal bus card }
+// Nothing is in the way of an answer.
+#[tactic(auto, unfolding(crate::specs::Outcomes::outcome_refusal, words::specs::First::first_of))]
+fn check_asked(bus: Bus, card: u8) -> Result<(), Refusal>
+    ensures { answered result ≡ outcome_refusal bus card }
 {
     if !makes_sense(bus) {
-        SENSELESS
+        Err(Refusal::Senseless)
     } else if 15 < card {
-        MALFORMED
+        Err(Refusal::Malformed)
     } else if !card_in(bus.fitted, card) {
-        NOT_FITTED
-    } else if !(bus.phase == ARBITRATION) {
-        WRONG_PHASE
+        Err(Refusal::NotFitted)
+    } else if bus.phase != ARBITRATION {
+        Err(Refusal::WrongPhase)
     } else if !card_in(bus.contenders, card) {
-        NOT_ITS_TURN
+        Err(Refusal::NotItsTurn)
     } else if !bus.is_settled() {
-        UNSETTLED
+        Err(Refusal::Unsettled)
     } else {
-        ACCEPTED
+        Ok(())
     }
 }
 
-// Where nothing is in the way of an answer.
 fn settled_outcome(bus: Bus, card: u8) -> Outcome
-    ensures { result ≡ settled_outcome bus card }
+    ensures { outcome_in (Ok result) ≡ settled_outcome bus card }
 {
-    let line = line_lost(card, bus.lines());
-    if line == NO_LINE {
-        Outcome::Wins
-    } else {
-        Outcome::Loses(Loss {
-            line: line,
-            rival: rival_at(bus, line),
-        })
+    match line_lost(card, bus.lines()) {
+        None => Outcome::Wins,
+        Some(line) => Outcome::Loses(Loss {
+            line,
+            rival: rival_at(bus, line).unwrap_or(NOBODY),
+        }),
     }
 }
 
-fn line_lost(card: u8, lines: u8) -> u8
-    ensures { result ≡ line_lost card lines }
+// The highest of the four lines at which the card's number has 0, and the lines show 1.
+fn line_lost(card: u8, lines: u8) -> Option<u8>
+    ensures which { unwrap_or result no_line ≡ line_lost card lines }
+    ensures within { IfSome result (λ line. line < 4) }
 {
-    let mut line: u8 = 4;
-    while 0 < line {
-        line -= 1;
-        if !((card >> line) % 2 == 1) & ((lines >> line) % 2 == 1) {
-            return line;
+    for line in (0..4u8).rev() {
+        if ((card >> line) % 2 != 1) & ((lines >> line) % 2 == 1) {
+            return Some(line);
         }
     }
-    NO_LINE
+    None
 }
 
-fn rival_at(bus: Bus, line: u8) -> u8
+// The highest-numbered contender that drives the line.
+fn rival_at(bus: Bus, line: u8) -> Option<u8>
     requires { line < 4 }
-    ensures { result ≡ rival_at bus line }
+    ensures which { unwrap_or result nobody ≡ rival_at bus line }
+    ensures within { IfSome result (λ card. card < 16) }
 {
     let driven = bus.driven;
-    let mut card: u8 = 16;
-    while 0 < card {
-        card -= 1;
+    for card in (0..16u8).rev() {
         if card_in(bus.contenders, card) & ((driven[card as usize] >> line) % 2 == 1) {
-            return card;
+            return Some(card);
         }
     }
-    NOBODY
+    None
 }

@@ -1,29 +1,29 @@
 // The outcome for a card, and what is told of it in numbers.
 ghost use Rattle.std.specs.Prelude.{◌≡◌};
 ghost use Rattle.outcome.specs.Outcomes.{figures_of};
+ghost use Rattle.outcome.specs.Told.{outcome_in};
 
-use bus::numbers::*;
+use bus::Refusal;
+use bus::numbers::{ACCEPTED, NOBODY};
 
 // There is no line at which the card loses.
-pub const NO_LINE: u8 = 0xFF;
+const NO_LINE: u8 = 0xFF;
 
 // The priority line at which a card loses, 3 for weight 8 to 0 for weight 1, and the card that it loses to.
-#[derive(Clone, Copy)]
+#[derive(Clone, Copy, Debug, PartialEq, Eq)]
 pub struct Loss {
     pub line: u8,
     pub rival: u8,
 }
 
-#[derive(Clone, Copy)]
+#[derive(Clone, Copy, Debug, PartialEq, Eq)]
 pub enum Outcome {
-    // By the number of the refusal.
-    Refused(u8),
     Wins,
     Loses(Loss),
 }
 
 // What is told of it: the answer's number, the card that was asked about, the line and the rival.
-#[derive(Clone, Copy)]
+#[derive(Clone, Copy, Debug, PartialEq, Eq)]
 pub struct Figures {
     pub answer: u8,
     pub card: u8,
@@ -31,29 +31,26 @@ pub struct Figures {
     pub rival: u8,
 }
 
-impl Outcome {
-    pub fn figures(self, card: u8) -> Figures
-        ensures { result ≡ figures_of card self }
+// Neither a line nor a rival.
+const NO_LOSS: Loss = Loss {
+    line: NO_LINE,
+    rival: NOBODY,
+};
+
+impl Figures {
+    pub fn of(card: u8, told: Result<Outcome, Refusal>) -> Figures
+        ensures { result ≡ figures_of card (outcome_in told) }
     {
-        match self {
-            Outcome::Refused(refusal) => Figures {
-                answer: refusal,
-                card: card,
-                line: NO_LINE,
-                rival: NOBODY,
-            },
-            Outcome::Wins => Figures {
-                answer: ACCEPTED,
-                card: card,
-                line: NO_LINE,
-                rival: NOBODY,
-            },
-            Outcome::Loses(loss) => Figures {
-                answer: ACCEPTED,
-                card: card,
-                line: loss.line,
-                rival: loss.rival,
-            },
+        let (answer, loss) = match told {
+            Err(refusal) => (u8::from(refusal), NO_LOSS),
+            Ok(Outcome::Wins) => (ACCEPTED, NO_LOSS),
+            Ok(Outcome::Loses(loss)) => (ACCEPTED, loss),
+        };
+        Figures {
+            answer,
+            card,
+            line: loss.line,
+            rival: loss.rival,
         }
     }
 }
