@@ -31,3 +31,5 @@ module _ (p n l : ℕ) (some : 0 < p) where
 pub look_ends : (p n l : ℕ) → p ≤ 0 → look p n l ≡ 0
 unfolding look
 look_ends p n l none = let e : p ≡ 0 = omega arith in ap (λ (x : ℕ). look x n l) e
+
+pub ruleset one_place_down = (place_weight, look_drives, look_stops, look_passes, look_ends)

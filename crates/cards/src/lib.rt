@@ -14,7 +14,7 @@ pub use lists::{all_at_most, all_in};
 pub fn card_in(cards: u16, n: u8) -> bool
     ensures { result ≡ card_in cards n }
 {
-    if n < 16 { (cards >> n) % 2 == 1 } else { false }
+    n < 16 && (cards >> n) % 2 == 1
 }
 
 pub fn some_card(cards: u16) -> bool
@@ -39,13 +39,12 @@ pub fn counted(cards: u16, n: u8, value: u8) -> u8
 // ---- Looks
 
 // What a card of this number drives once it has looked at these lines.
+#[tactic(auto, using(crate::proofs::PlaceLaws::one_place_down))]
 pub fn look_at(number: u8, lines: u8) -> u8
     ensures { result ≡ look 4 number lines }
 {
-    let mut place: u8 = 4;
     let mut driven: u8 = 0;
-    while 0 < place {
-        place -= 1;
+    for place in (0..4u8).rev() {
         if (number >> place) % 2 == 1 {
             driven += 1 << place;
         } else if (lines >> place) % 2 == 1 {
@@ -59,5 +58,5 @@ pub fn look_at(number: u8, lines: u8) -> u8
 pub fn stays(contenders: u16, n: u8, level: u8, lines: u8) -> bool
     ensures { result ≡ (not (card_in contenders n) || eqb (look 4 n lines) level) }
 {
-    !card_in(contenders, n) | (look_at(n, lines) == level)
+    !card_in(contenders, n) || look_at(n, lines) == level
 }

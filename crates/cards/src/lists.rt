@@ -8,25 +8,12 @@ use crate::card_in;
 pub fn all_at_most(most: u8, numbers: &[u8]) -> bool
     ensures { result ≡ every_listed (λ number. leb number most) numbers.now }
 {
-    let mut all = true;
-    let mut i: usize = 0;
-    while i < numbers.len() {
-        all = all & (numbers[i] <= most);
-        i += 1;
-    }
-    all
+    numbers.iter().all(|&number| number <= most)
 }
 
 // Numbers above 15 are no cards, and not asked about.
 pub fn all_in(set: u16, cards: &[u8]) -> bool
     ensures { result ≡ cards_within set cards.now }
 {
-    let mut all = true;
-    let mut i: usize = 0;
-    while i < cards.len() {
-        let card = cards[i];
-        all = all & ((15 < card) | card_in(set, card));
-        i += 1;
-    }
-    all
+    cards.iter().all(|&card| 15 < card || card_in(set, card))
 }

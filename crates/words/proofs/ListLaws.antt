@@ -1,15 +1,20 @@
 -- Laws of lists: who is in a list, and what an entry is once some entry has been set.
 use mathlib.Core.Path.{◌≡◌, refl, sym, ap, ◌∙◌, subst}
 use mathlib.Core.Logic.{◌⊎◌, inl, inr, ⊎_elim}
-use mathlib.Core.Bool.{Bool, true, false, cond, false≢true}
+use mathlib.Core.Bool.{Bool, true, false, cond, ◌&&◌, false≢true}
 use mathlib.Core.List.{List, [], ◌∷◌}
-use Prim.Native.Nat.{ℕ, ◌<◌}
+use Prim.Native.Nat.{ℕ, zero, suc, ◌<◌, ◌≤◌}
 use native.Mathlib.Decide.{ℕ_discrete, dec_lt}
+use native.Mathlib.Nat.{le_refl}
+use native.Mathlib.Numerals.{add-one}
 use native.Mathlib.Omega.{arith}
 use lib.Dec.{eqb}
-use lib.ListN.{length, get_or, set}
-use lib.Seq.{get_or-set_same, get_or-set_other, set_out}
+use lib.ListN.{length, get_or, set, take}
+use lib.Seq.{take-length, get_or-set_same, get_or-set_other, set_out}
 use borrow.Author.Tests.{eqb-true, eq-eqb, ne_eqb}
+use Rattle.std.specs.List.{list_all}
+use Rattle.std.proofs.lemmas.List.Folds.{list_all_more}
+use Rattle.words.specs.Below.{all_below}
 use Rattle.words.specs.Among.{is_among, every_listed}
 use Rattle.words.proofs.TestLaws.{either_of}
 use Rattle.words.proofs.BelowLaws.{all_at, all_of}
@@ -31,6 +36,19 @@ every_at test numbers e i h = all_at _ (length numbers) e i h
 pub every_of : (test : ℕ → Bool) (numbers : List ℕ) → ((i : ℕ) → i < length numbers → test (get_or numbers i 0) ≡ true) → every_listed test numbers ≡ true
 unfolding every_listed
 every_of test numbers each = all_of _ (length numbers) each
+
+-- and asked one number after the other
+module _ (test : ℕ → Bool) (numbers : List ℕ) where
+  all_leading : (n : ℕ) → n ≤ length numbers → list_all test (take n numbers) ≡ all_below (λ i. test (get_or numbers i 0)) n
+  unfolding all_below
+  all_leading zero h = refl
+  all_leading (suc n) h =
+      rw (← add-one n) (list_all_more test numbers n 0 h)
+      ∙ ap (λ (b : Bool). b && test (get_or numbers n 0)) (all_leading n (omega (arith, h)))
+
+  pub every_listed_holds : list_all test numbers ≡ every_listed test numbers
+  unfolding every_listed
+  every_listed_holds = ap (list_all test) (sym (take-length numbers)) ∙ all_leading (length numbers) (le_refl (length numbers))
 
 -- the entry at j once the one at i has been set
 pub get_d_set : (l : List ℕ) (i j v : ℕ) → i < length l → get_or (set l i v) j 0 ≡ cond (eqb j i) v (get_or l j 0)

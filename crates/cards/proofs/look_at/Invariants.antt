@@ -6,7 +6,4 @@ use Rattle.cards.proofs.look_at.Given as goal
 
 abbrev pub invariant-loop-place : goal.invariant-loop-place
 invariant-loop-place l =
-    (l.place ≤ 4) × ((l.driven + 2 ^ l.place ≤ 16) × (l.driven + look l.place l.number l.lines ≡ look 4 l.number l.lines))
-
-abbrev pub decreases-loop-place : goal.decreases-loop-place
-decreases-loop-place l = l.place
+    (l.driven + 2 ^ l.place ≤ 16) × (l.driven + look l.place l.number l.lines ≡ look 4 l.number l.lines)
