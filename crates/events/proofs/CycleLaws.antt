@@ -8,7 +8,7 @@ use native.Mathlib.Nat.{eq-or-lt_of_le, le_antisymm, le_of_suc-le-suc}
 use Rattle.words.specs.Among.{is_among, beside, every_row}
 use Rattle.words.proofs.RowLaws.{no_row_beside, rows_only, NoneOf, none_among}
 use Rattle.phases.specs.Kind as Kind
-use Rattle.memory.specs.declared.Moved.{Moved}
+use Rattle.memory.specs.Moved.{Moved}
 use Rattle.memory.specs.declared.Slave.{Slave}
 use Rattle.memory.specs.Cycles.{nothing, byte_read}
 use Rattle.judgement.specs.Table.{is_cycle}

@@ -12,7 +12,7 @@ use Rattle.words.specs.Among.{beside}
 use Rattle.words.proofs.TestLaws.{tests_same}
 use Rattle.words.proofs.RowLaws.{of_each_row, beside_of}
 use Rattle.phases.specs.Signal.{signals_in}
-use Rattle.memory.specs.declared.Moved.{Moved}
+use Rattle.memory.specs.Moved.{Moved}
 use Rattle.memory.specs.declared.Slave.{Slave}
 use Rattle.memory.specs.Cycles.{nothing}
 use Rattle.memory.proofs.Moves.{same_bytes, same_datum}

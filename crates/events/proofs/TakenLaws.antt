@@ -7,7 +7,7 @@ use lib.Dec.{ltb}
 use borrow.Author.Tests.{not-false, ltb-false}
 use Rattle.words.proofs.TestLaws.{neither_of}
 use Rattle.phases.specs.Status.{status_of}
-use Rattle.memory.specs.declared.Moved.{Moved}
+use Rattle.memory.specs.Moved.{Moved}
 use Rattle.memory.specs.declared.Slave.{Slave}
 use Rattle.bus.specs.Sense.{makes_sense}
 use Rattle.bus.specs.Promises.{Sensible}

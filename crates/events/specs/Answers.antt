@@ -2,7 +2,7 @@
 use Rattle.std.specs.Prelude.{ℕ, ◌+◌, cond, leb}
 use Rattle.phases.specs.Kind as Kind
 use Rattle.phases.specs.Signal.{SIXTN, sXTRQ, signals_in}
-use Rattle.memory.specs.declared.Moved.{Moved}
+use Rattle.memory.specs.Moved.{Moved}
 use Rattle.memory.specs.declared.Slave.{Slave}
 use Rattle.memory.specs.Slave.{asserts_sixtn}
 use Rattle.memory.specs.Cycles.{nothing}

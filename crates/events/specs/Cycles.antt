@@ -2,7 +2,7 @@
 use Rattle.std.specs.Prelude.{ℕ, ◌%◌, List, [], ◌∷◌}
 use Rattle.words.specs.Among.{beside}
 use Rattle.phases.specs.Kind as Kind
-use Rattle.memory.specs.declared.Moved.{Moved}
+use Rattle.memory.specs.Moved.{Moved}
 use Rattle.memory.specs.declared.Slave.{Slave}
 use Rattle.memory.specs.Slave.{slave}
 use Rattle.memory.specs.Cycles.{nothing, byte_read, byte_write, after_byte_write, word_read, word_write, after_word_write}

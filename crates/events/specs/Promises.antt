@@ -8,7 +8,7 @@ use Rattle.phases.specs.Kind as Kind
 use Rattle.phases.specs.Signal.{HOLD, pHLDA, CDSB, SIXTN, sXTRQ, disabling, is_on, signals_in}
 use Rattle.phases.specs.Driver.{all_permanent, changing_hands, all_card, drivers_in}
 use Rattle.phases.specs.Status.{sMEMR, sM1, sINP, sOUT, sWO}
-use Rattle.memory.specs.declared.Moved.{Moved}
+use Rattle.memory.specs.Moved.{Moved}
 use Rattle.memory.specs.Halves.{even_half, odd_half, word_of}
 use Rattle.memory.specs.Cycles.{nothing, in_one_cycle}
 use Rattle.cards.specs.Cards.{some_card, is_within}

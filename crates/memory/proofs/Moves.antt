@@ -7,7 +7,7 @@ use native.Mathlib.Omega.{arith}
 use lib.ListN.{length}
 use lib.Seq.{set_out}
 use borrow.Author.Tests.{lt-ltb, le-ltb}
-use Rattle.memory.specs.declared.Moved.{Moved}
+use Rattle.memory.specs.Moved.{Moved}
 use Rattle.memory.specs.Cycles.{byte_read, byte_write, has_word}
 use Rattle.memory.specs.Promises.{DatumHasItsHalves, ByteMoves, WordMoves, SameBytes, SameDatum}
 use Rattle.memory.specs.Promises.{NoWord, OddAddress, WordPastTheEnd, BytePastTheEnd}

@@ -2,14 +2,14 @@
 use mathlib.Core.Path.{◌≡◌, refl, sym, ap, ap₂, ◌∙◌}
 use mathlib.Core.Bool.{true}
 use mathlib.Core.List.{List, [], ◌∷◌, ◌++◌, append_assoc}
-use Prim.Native.Nat.{ℕ, ◌+◌, ◌-◌}
+use Prim.Native.Nat.{ℕ, ◌+◌, ◌-◌, ◌/◌, ◌%◌, ◌<◌}
 use native.Mathlib.Omega.{arith}
 use lib.Dec.{lit<}
 use lib.ListN.{length, get_or, take, drop, length-take, length-drop, drop_of_length-le}
-use borrow.Rule.Slice.PartMut.{mid_of, put_mid, Post-is}
+use borrow.Rule.Slice.PartMut.{put_mid, Post-is}
 use Rattle.memory.specs.declared.Slave.{Slave}
 use Rattle.memory.specs.Halves.{even_half, odd_half, word_of}
-use Rattle.memory.specs.Cycles.{pair_at, has_word, word_read, word_write, after_word_write}
+use Rattle.memory.specs.Cycles.{pair_at, has_word, word_read, word_write, after_word_write, after_ganged_write}
 use Rattle.memory.specs.Promises.{in_word_cycles}
 use Rattle.memory.proofs.WordLaws.{pair_entry, word_lies, word_ends, word_read_is, word_write_is, after_word_ganged}
 
@@ -42,18 +42,9 @@ module _ (s : Slave) (m : List ℕ) (a : ℕ) (h : has_word m a ≡ true) where
       ∙ sym (append_assoc (take a m) (even_half v ∷ odd_half v ∷ []) (drop (a + 2) m))
       ∙ sym (after_word_ganged m a s v h)
 
-  -- the same of the part that the code lends, with the bounds as the code has them
-  part_is_pair : mid_of a (a + 2 - a) m ≡ pair_at m a
-  part_is_pair =
-      let two : a + 2 - a ≡ 2 = omega arith in
-      ap (λ (n : ℕ). take n (drop a m)) two
-
-  pub part_read : word_read s (mid_of a (a + 2 - a) m) 0 ≡ word_read s m a
-  part_read = ap (λ (l : List ℕ). word_read s l 0) part_is_pair ∙ pair_read
-
-  pub part_write : (v : ℕ) → word_write s (mid_of a (a + 2 - a) m) 0 v ≡ word_write s m a v
-  part_write v = ap (λ (l : List ℕ). word_write s l 0 v) part_is_pair ∙ pair_write v
-
-  pub part_home : (v : ℕ) → put_mid a (a + 2 - a) m (after_word_write s (mid_of a (a + 2 - a) m) 0 v) ≡ after_word_write s m a v
-  part_home v =
-      ap₂ (λ (ys zs : List ℕ). take a m ++ (after_word_write s ys 0 v ++ zs)) part_is_pair (Post-is a (a + 2) m (omega arith)) ∙ pair_home v
+-- the two bytes that the code lends, with the bounds as the code has them, come home as both halves at once
+pub part_home : (m : List ℕ) (a v : ℕ) → v < 0x10000 → put_mid a (a + 2 - a) m (v / 0x100 % 0x100 ∷ v % 0x100 ∷ []) ≡ after_ganged_write m a v
+part_home m a v fits =
+    let high : v / 0x100 % 0x100 ≡ even_half v = omega (arith, fits) in
+    ap₂ (λ (x : ℕ) (zs : List ℕ). take a m ++ ((x ∷ odd_half v ∷ []) ++ zs)) high (Post-is a (a + 2) m (omega arith))
+    ∙ sym (append_assoc (take a m) (even_half v ∷ odd_half v ∷ []) (drop (a + 2) m))

@@ -1,6 +1,6 @@
 -- What a cycle event moves in a memory of any length, and what it leaves there (000, 2.6; 01, "Bytes, words, status").
 use Rattle.std.specs.Prelude.{ℕ, ◌+◌, ◌%◌, Bool, cond, ◌&&◌, List, [], ◌∷◌, ◌++◌, eqb, ltb, length, get_or, set, take, drop}
-use Rattle.memory.specs.declared.Moved.{Moved}
+use Rattle.memory.specs.Moved.{Moved}
 use Rattle.memory.specs.declared.Slave.{Slave}
 use Rattle.memory.specs.Halves.{even_half, odd_half, word_of}
 use Rattle.memory.specs.Slave.{asserts_sixtn}

@@ -1,7 +1,7 @@
 -- What is promised of byte and word cycles, for a memory of any length. The proof of each stands in proofs/ under its name in lower case, with
 -- underscores: that of SameBytes is same_bytes.
 use Rattle.std.specs.Prelude.{ℕ, ◌+◌, ◌%◌, ◌<◌, ◌≤◌, ◌≡◌, ◌⊎◌, ◌↔◌, true, cond, List, ◌++◌, eqb, length, get_or, take, drop}
-use Rattle.memory.specs.declared.Moved.{Moved}
+use Rattle.memory.specs.Moved.{Moved}
 use Rattle.memory.specs.declared.Slave.{Slave}
 use Rattle.memory.specs.Halves.{even_half, odd_half, word_of}
 use Rattle.memory.specs.Cycles.{
