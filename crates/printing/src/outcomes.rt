@@ -1,8 +1,9 @@
 // The outcome lines of the sixteen cards, each digit put where it stays.
-ghost use Rattle.std.specs.Prelude.{◌≡◌, length};
-ghost use Rattle.text.specs.OutcomeLine.{outcome_line, outcome_length, outcomes_put, outcome_bytes_put};
+ghost use Rattle.std.specs.Prelude.{◌≡◌, ◌+◌, ◌≤◌};
+ghost use Rattle.std.proofs.lemmas.List.Edits.{sets};
+ghost use Rattle.text.specs.OutcomeLine.{outcome_line, outcome_length, outcomes_length, outcomes_put, outcome_bytes_put};
 
-use crate::printing::put_numbers;
+use crate::printing::put_byte;
 use bus::Bus;
 use outcome::{Figures, outcome_for};
 use text::NEWLINE;
@@ -13,31 +14,23 @@ pub fn put_outcomes(bus: Bus, out: &mut [u8]) -> usize
     ensures put { result ≡ outcome_bytes_put out.old }
     ensures left { out.new ≡ outcomes_put bus out.old }
 {
-    if OUTCOMES_LENGTH <= out.len() {
-        let mut card: u8 = 0;
-        while card < 16 {
-            let at = card as usize * OUTCOME_LENGTH;
-            let figures = outcome_for(bus, card).figures(card);
-            put_outcome(figures, &mut out[at..at + OUTCOME_LENGTH]);
-            card += 1;
-        }
-        OUTCOMES_LENGTH
-    } else {
-        0
+    let Some(lines) = out.first_chunk_mut() else {
+        return 0;
+    };
+    for card in 0..16u8 {
+        let figures = outcome_for(bus, card).figures(card);
+        put_outcome(figures, usize::from(card) * OUTCOME_LENGTH, lines);
     }
+    OUTCOMES_LENGTH
 }
 
-// It is lent the line's own bytes.
-fn put_outcome(figures: Figures, part: &mut [u8])
-    requires { length part.old ≡ outcome_length }
-    ensures { part.new ≡ outcome_line figures }
+fn put_outcome(figures: Figures, at: usize, lines: &mut [u8; OUTCOMES_LENGTH])
+    requires { at + outcome_length ≤ outcomes_length }
+    ensures { lines.new ≡ sets lines.old at (outcome_line figures) }
 {
-    put_numbers(
-        &mut part[0..NEWLINE_AT],
-        figures.answer,
-        figures.card,
-        figures.line,
-        figures.rival,
-    );
-    part[NEWLINE_AT] = NEWLINE;
+    put_byte(figures.answer, at, lines);
+    put_byte(figures.card, at + 2, lines);
+    put_byte(figures.line, at + 4, lines);
+    put_byte(figures.rival, at + 6, lines);
+    lines[at + NEWLINE_AT] = NEWLINE;
 }

@@ -4,4 +4,4 @@ use Rattle.printing.proofs.outcomes.put_outcome.Goals as goal
 
 pub returns : goal.returns
 returns c =
-    outcome_put c.args.part.now c.put_numbers.new.part c.args.figures c.requires c.put_numbers.ensures
+    rw (c.put_byte-4.ensures, c.put_byte-3.ensures, c.put_byte-2.ensures, c.put_byte.ensures) (outcome_put c.args.lines.now c.args.at c.args.figures)

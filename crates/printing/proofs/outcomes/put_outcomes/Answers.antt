@@ -1,46 +1,35 @@
--- The lines of the cards so far stand at the front of the place.
+-- The lines of the cards so far stand at the front.
 use Prim.Native.Nat.{ℕ}
 use mathlib.Core.Path.{◌≡◌, refl, ap, ◌∙◌}
 use native.Mathlib.Omega.{arith}
-use borrow.Author.Tests.{le-leb, lt-leb}
+use borrow.Author.Tests.{le-leb}
 use lib.ListN.{length}
-use lib.Seq.{sets}
-use Rattle.words.proofs.TestLaws.{then_pick, else_pick}
+use lib.Seq.{sets, length-take-le}
+use Rattle.words.proofs.TestLaws.{then_pick}
 use Rattle.outcome.specs.Outcomes.{figures_of}
-use Rattle.text.specs.OutcomeLine.{outcome_line, outcomes_below, outcomes_length}
-use Rattle.printing.proofs.LineLaws.{still_long, line_lent, line_next}
+use Rattle.text.specs.OutcomeLine.{outcomes_below, outcomes_length}
+use Rattle.printing.proofs.LineLaws.{line_next, outcomes_in_place}
 use Rattle.printing.proofs.outcomes.put_outcomes.Goals as goal
-use Rattle.printing.proofs.outcomes.put_outcomes.Goals.{After-figures-figures, After-put_outcome, At-loop-card, Start}
 
 pub loop-card-init : goal.loop-card-init
 unfolding outcomes_below
-loop-card-init c = (omega arith, refl)
-
-pub put_outcome-requires : goal.put_outcome-requires
-put_outcome-requires c =
-    line_lent c.args.bus c.args.out.now c.loop-card.out c.loop-card.card c.loop-card.invariant.1 c.loop-card-test.true (omega arith)
+loop-card-init c = refl
 
 pub loop-card-preserved : goal.loop-card-preserved
-loop-card-preserved c = (
-  omega arith,
-  line_next c.args.bus c.args.out.now c.loop-card.out c.loop-card.card c.loop-card.invariant.1 c.loop-card-test.true (omega arith)
-      c.put_outcome.new.part
-      (c.put_outcome.ensures ∙ ap outcome_line (c.figures-figures.ensures ∙ ap (figures_of c.loop-card.card) c.outcome_for.ensures)),
-)
+loop-card-preserved c =
+    let card = c.loop-card.card in
+    let figures = c.figures-figures.ensures ∙ ap (figures_of card) c.outcome_for.ensures in
+    rw (c.put_outcome.ensures, figures, c.from.ensures, c.loop-card.invariant) (line_next c.args.bus c.in-Some.lines.now card)
 
-pub returns-after-loop-card : goal.returns-after-loop-card
-returns-after-loop-card c =
-    let fits = le-leb outcomes_length (length c.args.out.now) (omega arith) in
+pub returns-clause-put : goal.returns-clause-put
+returns-clause-put c =
+    then_pick 0 (le-leb outcomes_length (length c.args.out.now) (c.in-Some.ensures.variant.0 refl)) refl
+
+pub returns-clause-left : goal.returns-clause-left
+returns-clause-left c =
+    let place = c.args.out.now in
+    let room = c.in-Some.ensures.variant.0 refl in
     let all : c.loop-card.card ≡ 16 = omega arith in
-    record {
-      put = then_pick 0 fits refl;
-      left = then_pick c.args.out.now fits (c.loop-card.invariant.1 ∙ ap (λ (n : ℕ). sets c.args.out.now 0 (outcomes_below c.args.bus n)) all);
-    }
-
-pub shape_of-out : goal.shape_of-out
-shape_of-out c = still_long c.args.bus c.args.out.now c.loop-card.out c.loop-card.card c.loop-card.invariant.1
-
-pub returns-else-out-ge-OUTCOMES_LENGTH : goal.returns-else-out-ge-OUTCOMES_LENGTH
-returns-else-out-ge-OUTCOMES_LENGTH c =
-    let small = lt-leb outcomes_length (length c.args.out.now) (omega arith) in
-    record { put = else_pick outcomes_length small refl; left = else_pick _ small refl }
+    then_pick place (le-leb outcomes_length (length place) room) (
+    outcomes_in_place c.args.bus place c.in-Some.lines.now c.loop-card.lines room (ap length c.in-Some.ensures.cases.same ∙ length-take-le 144 place room)
+    (c.loop-card.invariant ∙ ap (λ (n : ℕ). sets c.in-Some.lines.now 0 (outcomes_below c.args.bus n)) all))

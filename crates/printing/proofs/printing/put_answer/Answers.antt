@@ -1,25 +1,17 @@
--- The two parts of the line, where there is room.
-use mathlib.Core.Path.{refl}
-use native.Mathlib.Omega.{arith}
-use borrow.Author.Tests.{le-leb, lt-leb}
-use lib.ListN.{length}
-use Rattle.words.proofs.TestLaws.{then_pick, else_pick}
+-- Where there is room.
+use mathlib.Core.Path.{refl, ap, ◌∙◌}
+use mathlib.Core.List.{List, ◌++◌}
+use Prim.Native.Nat.{ℕ}
+use borrow.Author.Tests.{le-leb}
+use lib.ListN.{length, drop}
+use Rattle.words.proofs.TestLaws.{then_pick}
 use Rattle.text.specs.AnswerLine.{answer_length}
-use Rattle.printing.proofs.LineLaws.{line_put}
+use Rattle.printing.proofs.LineLaws.{answer_in_place}
 use Rattle.printing.proofs.printing.put_answer.Goals as goal
 
-pub returns-then-out-ge-ANSWER_LENGTH : goal.returns-then-out-ge-ANSWER_LENGTH
-returns-then-out-ge-ANSWER_LENGTH c =
-    let given = c.args in
-    let room = le-leb answer_length (length given.out.now) (omega arith) in
-    record {
-      put = then_pick 0 room refl;
-      left = then_pick given.out.now room (
-          line_put given.out.now c.put_numbers.new.part c.put_cycle.new.part given.answer (omega arith)
-          c.put_numbers.ensures c.put_cycle.ensures);
-    }
-
-pub returns-else-out-ge-ANSWER_LENGTH : goal.returns-else-out-ge-ANSWER_LENGTH
-returns-else-out-ge-ANSWER_LENGTH c =
-    let small = lt-leb answer_length (length c.args.out.now) (omega arith) in
-    record { put = else_pick answer_length small refl; left = else_pick _ small refl }
+pub returns-clause-left : goal.returns-clause-left
+returns-clause-left c =
+    let place = c.args.out.now in
+    let room = c.in-Some.ensures.variant.0 refl in
+    then_pick place (le-leb answer_length (length place) room) (
+    ap (λ (l : List ℕ). l ++ drop 19 place) c.put_line.ensures ∙ answer_in_place place c.args.answer room)
