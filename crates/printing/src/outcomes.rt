@@ -18,7 +18,7 @@ pub fn put_outcomes(bus: Bus, out: &mut [u8]) -> usize
         return 0;
     };
     for card in 0..16u8 {
-        let figures = outcome_for(bus, card).figures(card);
+        let figures = Figures::of(card, outcome_for(bus, card));
         put_outcome(figures, usize::from(card) * OUTCOME_LENGTH, lines);
     }
     OUTCOMES_LENGTH

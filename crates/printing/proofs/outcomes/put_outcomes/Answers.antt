@@ -18,7 +18,7 @@ loop-card-init c = refl
 pub loop-card-preserved : goal.loop-card-preserved
 loop-card-preserved c =
     let card = c.loop-card.card in
-    let figures = c.figures-figures.ensures ∙ ap (figures_of card) c.outcome_for.ensures in
+    let figures = c.of-figures.ensures ∙ ap (figures_of card) c.outcome_for.ensures in
     rw (c.put_outcome.ensures, figures, c.from.ensures, c.loop-card.invariant) (line_next c.args.bus c.in-Some.lines.now card)
 
 pub returns-clause-put : goal.returns-clause-put
