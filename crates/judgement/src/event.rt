@@ -5,6 +5,7 @@ pub const PERMANENT_MASTER: u8 = 0x10;
 
 #[derive(Clone, Copy)]
 pub struct Event {
+    // Kept: an event may have any numbers, and those that no kind, speaker or place has are refused (`sound_verdict`).
     pub kind: u8,
     // A card, or the permanent master.
     pub speaker: u8,

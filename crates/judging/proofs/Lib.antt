@@ -1,3 +1,3 @@
 -- Laws that the functions' proofs cite.
-pub mod RuleLaws
+pub mod KindLaws
 pub mod TurnLaws

@@ -1,7 +1,7 @@
 -- The judgement as a chain of tests, and what kind and phase say of it.
-use Prim.Native.Nat.{ℕ}
+use Prim.Native.Nat.{ℕ, ◌<◌}
 use mathlib.Core.Path.{◌≡◌, refl, sym, ap, ◌∙◌}
-use mathlib.Core.Logic.{⊎_elim}
+use mathlib.Core.Logic.{◌⊎◌, ⊎_elim}
 use mathlib.Core.Bool.{Bool, true, false, not, cond, ◌&&◌, true≢false}
 use mathlib.Core.List.{List, [], ◌∷◌}
 use lib.Dec.{eqb}
@@ -10,14 +10,16 @@ use borrow.Author.Tests.{not-true}
 use Rattle.words.specs.First.{Reason, first_of}
 use Rattle.words.proofs.RowLaws.{end, ◌and◌}
 use Rattle.words.proofs.TestLaws.{true_or_false, both_of}
+use Rattle.phases.specs.Kind as Number
 use Rattle.bus.specs.Refusal as Refusal
 use Rattle.bus.specs.declared.state.Bus.{Bus}
 use Rattle.judgement.specs.Table.{Row, has_turn, row_of}
 use Rattle.judgement.specs.Refusals.{is_malformed, names_nobody, names_unfitted, is_wrong_phase}
-use Rattle.judgement.specs.Judge.{Verdict, Refused, Takes, turn_reasons, sound_refusal, sound_verdict}
+use Rattle.judgement.specs.Judge.{Verdict, Refused, Takes, turn_reasons, sound_reasons, sound_refusal, sound_verdict}
 use Rattle.judging.specs.Turns.{turn_of, ruled_of, asked_of}
 use Rattle.judgement.specs.declared.event.Event.{Event}
 use Rattle.judgement.proofs.TableLaws.{by_row}
+use Rattle.judging.proofs.KindLaws.{no_other_has}
 
 -- a number where a test holds, and else a later one: the verdict is that refusal, or the later verdict
 verdict_first : (b : Bool) (step : Verdict) (n later : ℕ) → eqb n 0 ≡ false
@@ -25,7 +27,7 @@ verdict_first : (b : Bool) (step : Verdict) (n later : ℕ) → eqb n 0 ≡ fals
 verdict_first true step n later e = rw e
 verdict_first false step n later e = refl
 
--- so it is of a list of reasons, none of which is Numbered 0: a chain of tests
+-- so it is of a list of reasons, none of which is numbered 0: a chain of tests
 unfoldable chain_of : List Reason → Verdict → Verdict
 chain_of [] step = step
 chain_of (r ∷ reasons) step = cond r.applies (Refused r.number) (chain_of reasons step)
@@ -54,17 +56,23 @@ module _ (bus : Bus) (event : Event) where
   unfolding turn_of chain_of all_numbered
   turn_chain = chain_of_holds (turn_reasons bus event) (Takes (row_of event.kind).step) refl
 
-  pub sound_chain : sound_verdict bus event
-      ≡ cond (is_malformed event) (Refused Refusal.malformed)
-      (cond (names_nobody event) (Refused Refusal.nobody_named)
-      (cond (names_unfitted bus.fitted event) (Refused Refusal.not_fitted) (turn_of bus event)))
-  unfolding sound_verdict sound_refusal turn_of first_of
+  -- 03, 04 and 05 before it
+  abbrev before_turn : Verdict → Verdict
+  before_turn later =
+      cond (is_malformed event) (Refused Refusal.malformed)
+      (cond (names_nobody event) (Refused Refusal.nobody_named) (cond (names_unfitted bus.fitted event) (Refused Refusal.not_fitted) later))
+
+  pub sound_chain : sound_verdict bus event ≡ before_turn (turn_of bus event)
+  unfolding sound_verdict sound_refusal turn_of chain_of all_numbered
   sound_chain =
-      verdict_first (is_malformed event) (Takes (row_of event.kind).step) _ _ refl
-      ∙ ap (cond (is_malformed event) (Refused Refusal.malformed))
-      (verdict_first (names_nobody event) (Takes (row_of event.kind).step) _ _ refl
-      ∙ ap (cond (names_nobody event) (Refused Refusal.nobody_named))
-      (verdict_first (names_unfitted bus.fitted event) (Takes (row_of event.kind).step) _ _ refl))
+      chain_of_holds (sound_reasons bus event) step refl ∙ ap before_turn (sym (chain_of_holds (turn_reasons bus event) step refl))
+    where
+      step : Verdict
+      step = Takes (row_of event.kind).step
+
+  -- 03, where no kind has the event's number
+  pub unknown_refused : (event.kind < Number.request) ⊎ (Number.last < event.kind) → Refused Refusal.malformed ≡ sound_verdict bus event
+  unknown_refused unknown = rw (sound_chain, no_other_has event.kind unknown)
 
   -- what the step of a row asks for is what the row asks for
   AskedAlike : ℕ → Row → Type 0

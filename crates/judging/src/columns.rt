@@ -1,36 +1,32 @@
 // The columns of the event table: what goes by the kind alone.
 ghost use Rattle.std.specs.Prelude.{◌≡◌};
-ghost use Rattle.judgement.specs.Table.{has_row, lists_speaker, lists_address, most_datum};
+ghost use Rattle.phases.specs.Kinds.{number_of_kind};
+ghost use Rattle.judgement.specs.Table.{lists_speaker, lists_address, most_datum};
 
-use phases::numbers::*;
+use phases::Kind;
 
-pub fn has_row(kind: u8) -> bool
-    ensures { result ≡ has_row kind }
+#[tactic(auto, unfolding(words::specs::Among::beside))]
+pub fn lists_speaker(kind: Kind) -> bool
+    ensures { result ≡ lists_speaker (number_of_kind kind) }
 {
-    (REQUEST <= kind) & (kind <= LAST_KIND)
+    !matches!(kind, Kind::Request | Kind::Acknowledge | Kind::Reset)
 }
 
-pub fn lists_speaker(kind: u8) -> bool
-    ensures { result ≡ lists_speaker kind }
+#[tactic(auto, unfolding(words::specs::Among::beside))]
+pub fn lists_address(kind: Kind) -> bool
+    ensures { result ≡ lists_address (number_of_kind kind) }
 {
-    (kind == LOOK) | ((BEGIN_TRANSFER_ONE <= kind) & (kind <= GIVE_BACK))
-}
-
-pub fn lists_address(kind: u8) -> bool
-    ensures { result ≡ lists_address kind }
-{
-    (BYTE_READ <= kind) & (kind <= OUTPUT)
+    kind.is_cycle()
 }
 
 // The most that the datum may be; 0 where none is listed.
-pub fn most_datum(kind: u8) -> u16
-    ensures { result ≡ most_datum kind }
+#[tactic(auto, unfolding(words::specs::Among::beside))]
+pub fn most_datum(kind: Kind) -> u16
+    ensures { result ≡ most_datum (number_of_kind kind) }
 {
     match kind {
-        REQUEST => 0xFFFF,
-        BYTE_WRITE => 0xFF,
-        WORD_WRITE => 0xFFFF,
-        OUTPUT => 0xFF,
+        Kind::Request | Kind::WordWrite => 0xFFFF,
+        Kind::ByteWrite | Kind::Output => 0xFF,
         _ => 0,
     }
 }

@@ -1,43 +1,71 @@
 // The reasons to refuse an event that go by more than its kind and the phase.
 ghost use Rattle.std.specs.Prelude.{◌≡◌};
+ghost use Rattle.phases.specs.Kinds.{number_of_kind};
 ghost use Rattle.judgement.specs.Refusals.{has_stray_field, is_malformed, names_nobody, names_unfitted, page_at, is_odd_word, is_absent};
 
-use crate::columns::{has_row, lists_address, lists_speaker, most_datum};
+use crate::columns::{lists_address, lists_speaker, most_datum};
 use cards::{card_in, is_within, some_card};
 use judgement::{Event, PERMANENT_MASTER};
-use phases::numbers::*;
+use phases::Kind;
 
-// 03
-pub fn is_malformed(event: Event) -> bool
-    ensures { result ≡ is_malformed event }
-{
-    let kind = event.kind;
-    !has_row(kind)
-        | (PERMANENT_MASTER < event.speaker)
-        | has_stray_field(event)
-        | (most_datum(kind) < event.datum)
+// An event of a kind that there is.
+#[derive(Clone, Copy)]
+pub struct KnownEvent {
+    pub kind: Kind,
+    pub event: Event,
+    ghost named: { event.kind ≡ number_of_kind kind },
 }
 
-fn has_stray_field(event: Event) -> bool
-    ensures { result ≡ has_stray_field event }
-{
-    let kind = event.kind;
-    (!lists_speaker(kind) & !(event.speaker == 0)) | (!lists_address(kind) & !(event.address == 0))
-}
+impl KnownEvent {
+    // 03
+    #[tactic(auto, using(crate::proofs::KindLaws::each_has_row))]
+    pub fn is_malformed(self) -> bool
+        ensures { result ≡ is_malformed self.event }
+    {
+        (PERMANENT_MASTER < self.event.speaker)
+            | self.has_stray_field()
+            | (most_datum(self.kind) < self.event.datum)
+    }
 
-// 04
-pub fn names_nobody(event: Event) -> bool
-    ensures { result ≡ names_nobody event }
-{
-    (event.kind == REQUEST) & !some_card(event.datum)
-}
+    fn has_stray_field(self) -> bool
+        ensures { result ≡ has_stray_field self.event }
+    {
+        (!lists_speaker(self.kind) & (self.event.speaker != 0))
+            | (!lists_address(self.kind) & (self.event.address != 0))
+    }
 
-// 05
-pub fn names_unfitted(fitted: u16, event: Event) -> bool
-    ensures { result ≡ names_unfitted fitted event }
-{
-    (lists_speaker(event.kind) & (event.speaker <= 15) & !card_in(fitted, event.speaker))
-        | ((event.kind == REQUEST) & !is_within(event.datum, fitted))
+    // 04
+    pub fn names_nobody(self) -> bool
+        ensures { result ≡ names_nobody self.event }
+    {
+        (self.kind == Kind::Request) & !some_card(self.event.datum)
+    }
+
+    // 05
+    pub fn names_unfitted(self, fitted: u16) -> bool
+        ensures { result ≡ names_unfitted fitted self.event }
+    {
+        (lists_speaker(self.kind)
+            & (self.event.speaker <= 15)
+            & !card_in(fitted, self.event.speaker))
+            | ((self.kind == Kind::Request) & !is_within(self.event.datum, fitted))
+    }
+
+    // 09
+    pub fn is_odd_word(self) -> bool
+        ensures { result ≡ is_odd_word self.event }
+    {
+        self.kind.is_word() & (self.event.address % 2 != 0)
+    }
+
+    // 0A
+    pub fn is_absent(self, pages: [u8; 16]) -> bool
+        ensures { result ≡ is_absent pages self.event }
+    {
+        let address = self.event.address;
+        (self.kind.is_of_memory() & ((0xFFFF < address) | (page_at(pages, address) == 0)))
+            | (self.kind.is_of_ports() & (0xFF < address))
+    }
 }
 
 // The code of the page that an address lies in; beyond the sixteen pages there is none, as on an absent one.
@@ -49,22 +77,4 @@ pub fn page_at(pages: [u8; 16], address: u32) -> u8
     } else {
         0
     }
-}
-
-// 09
-pub fn is_odd_word(event: Event) -> bool
-    ensures { result ≡ is_odd_word event }
-{
-    ((event.kind == WORD_READ) | (event.kind == WORD_WRITE)) & !(event.address % 2 == 0)
-}
-
-// 0A
-pub fn is_absent(pages: [u8; 16], event: Event) -> bool
-    ensures { result ≡ is_absent pages event }
-{
-    let kind = event.kind;
-    ((BYTE_READ <= kind)
-        & (kind <= WORD_WRITE)
-        & ((0xFFFF < event.address) | (page_at(pages, event.address) == 0)))
-        | (((kind == INPUT) | (kind == OUTPUT)) & (0xFF < event.address))
 }

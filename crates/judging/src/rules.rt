@@ -1,50 +1,36 @@
 // What kind and phase say together.
 ghost use Rattle.std.specs.Prelude.{◌≡◌};
+ghost use Rattle.phases.specs.Kinds.{number_of_kind};
+ghost use Rattle.phases.specs.Phase.{has_cycles};
 ghost use Rattle.judgement.specs.Told.{verdict_in};
 ghost use Rattle.judging.specs.Turns.{ruled_of};
 
 use bus::{Refusal, Step};
+use phases::Kind;
 use phases::numbers::*;
 
 // 06, or the step of the kind.
-pub fn ruled(kind: u8, phase: u8) -> Result<Step, Refusal>
-    ensures { verdict_in result ≡ ruled_of kind phase }
+#[tactic(auto, unfolding(crate::specs::Turns::ruled_of, words::specs::Among::beside))]
+pub fn ruled(kind: Kind, phase: u8) -> Result<Step, Refusal>
+    ensures { verdict_in result ≡ ruled_of (number_of_kind kind) phase }
 {
-    match kind {
-        REQUEST => match phase {
-            FREE => Ok(Step::Request),
-            _ => Err(Refusal::WrongPhase),
-        },
-        LOOK => match phase {
-            ARBITRATION => Ok(Step::Look),
-            _ => Err(Refusal::WrongPhase),
-        },
-        ACKNOWLEDGE => match phase {
-            ARBITRATION => Ok(Step::Acknowledge),
-            _ => Err(Refusal::WrongPhase),
-        },
-        BEGIN_TRANSFER_ONE => match phase {
-            GRANTED => Ok(Step::BeginTransferOne),
-            _ => Err(Refusal::WrongPhase),
-        },
-        TAKE_BUS => match phase {
-            TRANSFER_ONE => Ok(Step::TakeBus),
-            _ => Err(Refusal::WrongPhase),
-        },
-        BYTE_READ..=OUTPUT => match phase {
-            FREE..=ARBITRATION => Ok(Step::Cycle),
-            OWNED => Ok(Step::Cycle),
-            _ => Err(Refusal::WrongPhase),
-        },
-        BEGIN_TRANSFER_TWO => match phase {
-            OWNED => Ok(Step::BeginTransferTwo),
-            _ => Err(Refusal::WrongPhase),
-        },
-        GIVE_BACK => match phase {
-            TRANSFER_TWO => Ok(Step::GiveBack),
-            _ => Err(Refusal::WrongPhase),
-        },
-        RESET => Ok(Step::Reset),
+    match (kind, phase) {
+        (Kind::Request, FREE) => Ok(Step::Request),
+        (Kind::Look, ARBITRATION) => Ok(Step::Look),
+        (Kind::Acknowledge, ARBITRATION) => Ok(Step::Acknowledge),
+        (Kind::BeginTransferOne, GRANTED) => Ok(Step::BeginTransferOne),
+        (Kind::TakeBus, TRANSFER_ONE) => Ok(Step::TakeBus),
+        (Kind::BeginTransferTwo, OWNED) => Ok(Step::BeginTransferTwo),
+        (Kind::GiveBack, TRANSFER_TWO) => Ok(Step::GiveBack),
+        (Kind::Reset, _) => Ok(Step::Reset),
+        _ if kind.is_cycle() && has_cycles(phase) => Ok(Step::Cycle),
         _ => Err(Refusal::WrongPhase),
     }
+}
+
+// Some master has cycles in these phases.
+fn has_cycles(phase: u8) -> bool
+    ensures { result ≡ has_cycles phase }
+{
+    matches!(phase, FREE | ARBITRATION | OWNED)
 }
