@@ -1,78 +1,70 @@
--- What a call hands back, by how it was judged.
+-- What a step leaves and answers, by the tests that the code makes in turn.
+use mathlib.Core.Path.{◌≡◌, refl}
+use mathlib.Core.Bool.{Bool, true, false, cond}
 use Prim.Native.Nat.{ℕ}
-use mathlib.Core.Path.{◌≡◌, refl, sym, ap, ◌∙◌}
-use mathlib.Core.Bool.{Bool, true, false, not, ◌&&◌, ◌||◌}
-use mathlib.Core.List.{List}
 use lib.Dec.{eqb}
-use lib.ListN.{length}
-use borrow.Author.Tests.{ne_eqb}
 use Rattle.words.specs.First.{first_of}
 use Rattle.bus.specs.Refusal as Refusal
-use Rattle.bus.specs.Sense.{makes_sense}
-use Rattle.bus.specs.declared.step.Step.{Step}
+use Rattle.bus.specs.Sense.{is_senseless}
+use Rattle.judgement.specs.Table.{row_of}
 use Rattle.judgement.specs.Refusals.{has_wrong_buffers}
-use Rattle.judgement.specs.Judge.{Refused, Takes, refusal_of, sound_verdict}
+use Rattle.judgement.specs.Judge.{Verdict, Refused, Takes, sound_refusal, refusal_of, sound_verdict}
 use Rattle.judgement.specs.declared.event.Event.{Event}
-use Rattle.judgement.proofs.Passed.{refused_says, taken_says, sound_call}
 use Rattle.events.specs.Machine.{Machine}
 use Rattle.events.specs.Answers.{refused_with}
-use Rattle.events.specs.Step.{bus_by, taken_by, answer_by, stepped, after, answer_to, sound_after, sound_answer}
+use Rattle.events.specs.Step.{taken_by, answer_by, after, answer_to, sound_after, sound_answer}
 use Rattle.events.specs.declared.answers.Answer.{Answer}
-use Rattle.events.specs.declared.answers.Stepped.{Stepped}
 
--- what a call hands back and leaves, given what it should have
-abbrev pub Hands : Machine → Event → (Machine → Event → Machine) → (Machine → Event → Answer) → Stepped → List ℕ → List ℕ → Type 0
-Hands m event left answer result memory ports =
-    (result ≡ stepped (left m event).bus (answer m event)) × ((memory ≡ (left m event).memory) × (ports ≡ (left m event).ports))
+-- what a verdict leaves, and what is answered to it
+abbrev pub after_verdict : Verdict → Machine → Event → Machine
+after_verdict (Refused number) m event = m
+after_verdict (Takes step) m event = taken_by step m event
 
--- one length or the other is another than it must be, as the code tests it
-abbrev pub has_other_lengths : List ℕ → List ℕ → Bool
-has_other_lengths memory ports = not (eqb (length memory) 0x10000) || not (eqb (length ports) 0x100)
-
-wrong_buffers : (memory ports : List ℕ) (b : Bool) → has_other_lengths memory ports ≡ b → has_wrong_buffers memory ports ≡ b
-wrong_buffers memory ports b e = sym (nor (eqb (length memory) 0x10000) (eqb (length ports) 0x100)) ∙ e
-  where
-    nor : (a b : Bool) → (not a || not b) ≡ not (a && b)
-    nor true b = refl
-    nor false b = refl
+abbrev pub answer_for : Verdict → Machine → Event → Answer
+answer_for (Refused number) m event = refused_with number m.bus
+answer_for (Takes step) m event = answer_by step m event
 
 module _ (m : Machine) (event : Event) where
-  -- ---- On a sound call
+  pub sound_after_by : sound_after m event ≡ after_verdict (sound_verdict m.bus event) m event
+  unfolding sound_after sound_verdict
+  sound_after_by = go (eqb (sound_refusal m.bus event) 0)
+    where
+      go : (b : Bool) → cond b (taken_by (row_of event.kind).step m event) m
+          ≡ after_verdict (cond b (Takes (row_of event.kind).step) (Refused (sound_refusal m.bus event))) m event
+      go true = refl
+      go false = refl
 
-  pub sound_taken : (step : Step) → Takes step ≡ sound_verdict m.bus event
-      → (result : Stepped) (memory ports : List ℕ) → result ≡ stepped (bus_by step m.bus event) (answer_by step m event)
-      → memory ≡ (taken_by step m event).memory → ports ≡ (taken_by step m event).ports
-      → Hands m event sound_after sound_answer result memory ports
-  unfolding sound_after sound_answer
-  sound_taken step v result memory ports r mm pp =
-      let says = taken_says m.bus event step v in
-      rw says.0 (r ∙ ap (λ (s : Step). stepped (bus_by s m.bus event) (answer_by s m event)) says.1, (mm, pp))
+  pub sound_answer_by : sound_answer m event ≡ answer_for (sound_verdict m.bus event) m event
+  unfolding sound_answer sound_verdict
+  sound_answer_by = go (eqb (sound_refusal m.bus event) 0)
+    where
+      go : (b : Bool) → cond b (answer_by (row_of event.kind).step m event) (refused_with (sound_refusal m.bus event) m.bus)
+          ≡ answer_for (cond b (Takes (row_of event.kind).step) (Refused (sound_refusal m.bus event))) m event
+      go true = refl
+      go false = refl
 
-  pub sound_refused : (number : ℕ) → Refused number ≡ sound_verdict m.bus event
-      → (result : Stepped) → result ≡ stepped m.bus (refused_with number m.bus)
-      → Hands m event sound_after sound_answer result m.memory m.ports
-  unfolding sound_after sound_answer
-  sound_refused number v result r =
-      let says = refused_says m.bus event number v in
-      rw (says.0, ne_eqb number 0 says.1) (r, (refl, refl))
+  -- 01 and 02 come before all else
+  pub after_by : after m event ≡ cond (has_wrong_buffers m.memory m.ports) m (cond (is_senseless m.bus) m (sound_after m event))
+  unfolding after sound_after refusal_of sound_refusal first_of
+  after_by = go (has_wrong_buffers m.memory m.ports) (is_senseless m.bus)
+    where
+      go : (a b : Bool) → cond (eqb (cond a 1 (cond b 2 (sound_refusal m.bus event))) 0) (taken_by (row_of event.kind).step m event) m
+          ≡ cond a m (cond b m (cond (eqb (sound_refusal m.bus event) 0) (taken_by (row_of event.kind).step m event) m))
+      go true b = refl
+      go false true = refl
+      go false false = refl
 
-  -- ---- On any call
+  pub answer_to_by : answer_to m event
+      ≡ cond (has_wrong_buffers m.memory m.ports) (refused_with Refusal.wrong_buffers m.bus)
+      (cond (is_senseless m.bus) (refused_with Refusal.senseless m.bus) (sound_answer m event))
+  unfolding answer_to sound_answer refusal_of sound_refusal first_of
+  answer_to_by = go (has_wrong_buffers m.memory m.ports) (is_senseless m.bus)
+    where
+      answer_as : ℕ → Answer
+      answer_as refusal = cond (eqb refusal 0) (answer_by (row_of event.kind).step m event) (refused_with refusal m.bus)
 
-  pub call_sound : has_other_lengths m.memory m.ports ≡ false → makes_sense m.bus ≡ true
-      → (result : Stepped) (memory ports : List ℕ) → Hands m event sound_after sound_answer result memory ports
-      → Hands m event after answer_to result memory ports
-  unfolding after answer_to sound_after sound_answer
-  call_sound lengths sense result memory ports hands =
-      rw (sound_call m.bus event m.memory m.ports (wrong_buffers m.memory m.ports _ lengths) (ap not sense)) hands
-
-  pub call_senseless : has_other_lengths m.memory m.ports ≡ false → makes_sense m.bus ≡ false
-      → (result : Stepped) → result ≡ stepped m.bus (refused_with Refusal.senseless m.bus)
-      → Hands m event after answer_to result m.memory m.ports
-  unfolding after answer_to refusal_of first_of
-  call_senseless lengths sense result r = rw (wrong_buffers m.memory m.ports _ lengths, sense) (r, (refl, refl))
-
-  pub call_misfit : has_other_lengths m.memory m.ports ≡ true
-      → (result : Stepped) → result ≡ stepped m.bus (refused_with Refusal.wrong_buffers m.bus)
-      → Hands m event after answer_to result m.memory m.ports
-  unfolding after answer_to refusal_of first_of
-  call_misfit lengths result r = rw (wrong_buffers m.memory m.ports _ lengths) (r, (refl, refl))
+      go : (a b : Bool) → answer_as (cond a 1 (cond b 2 (sound_refusal m.bus event)))
+          ≡ cond a (refused_with 1 m.bus) (cond b (refused_with 2 m.bus) (answer_as (sound_refusal m.bus event)))
+      go true b = refl
+      go false true = refl
+      go false false = refl

@@ -1,12 +1,13 @@
 // What is answered to an event.
 ghost use Rattle.std.specs.Prelude.{◌≡◌};
-ghost use Rattle.events.specs.Answers.{answer_with, signals_with, word_signals, bare_with, bare};
+ghost use Rattle.events.specs.Answers.{answer_with, signals_with, word_signals, bare_with};
 
 use bus::Bus;
 use events::Answer;
 use memory::{Moved, Slave};
 use moving::asserts_sixtn;
-use phases::numbers::*;
+use phases::Kind;
+use phases::numbers::{S_XTRQ, SIXTN};
 use tables::signals;
 
 // What the bus shows, and beside it what a cycle had on it.
@@ -14,18 +15,19 @@ pub fn answer_with(refusal: u8, bus: Bus, signals: u8, status: u8, moved: Moved)
     ensures { result ≡ answer_with refusal bus signals status moved }
 {
     Answer {
-        refusal: refusal,
+        refusal,
         phase: bus.phase,
         granted: bus.granted,
         lines: bus.lines(),
-        signals: signals,
-        status: status,
+        signals,
+        status,
         cycles: moved.cycles,
         datum: moved.datum,
     }
 }
 
 // The phase's signals, with those of a word.
+#[tactic(auto, using(events::proofs::SignalLaws::signals_fit))]
 pub fn signals_with(phase: u8, kind: u8, slave: Slave) -> u8
     ensures { result ≡ signals_with phase kind slave }
 {
@@ -33,25 +35,15 @@ pub fn signals_with(phase: u8, kind: u8, slave: Slave) -> u8
 }
 
 // sXTRQ, and SIXTN where the slave asserts it.
+#[tactic(auto, unfolding(events::specs::Answers::word_signals))]
 fn word_signals(kind: u8, slave: Slave) -> u8
     ensures { result ≡ word_signals kind slave }
 {
-    if (kind == WORD_READ) | (kind == WORD_WRITE) {
-        if asserts_sixtn(slave) {
-            S_XTRQ + SIXTN
-        } else {
-            S_XTRQ
-        }
-    } else {
-        0
+    match Kind::try_from(kind) {
+        Ok(kind) if kind.is_word() && asserts_sixtn(slave) => S_XTRQ + SIXTN,
+        Ok(kind) if kind.is_word() => S_XTRQ,
+        _ => 0,
     }
-}
-
-// A number alone, with all else 0.
-pub fn bare(refusal: u8) -> Answer
-    ensures { result ≡ bare refusal }
-{
-    bare_with(refusal, 0)
 }
 
 // A number with nothing but a datum behind it.
@@ -59,13 +51,8 @@ pub fn bare_with(refusal: u8, datum: u16) -> Answer
     ensures { result ≡ bare_with refusal datum }
 {
     Answer {
-        refusal: refusal,
-        phase: 0,
-        granted: 0,
-        lines: 0,
-        signals: 0,
-        status: 0,
-        cycles: 0,
-        datum: datum,
+        refusal,
+        datum,
+        ..Answer::default()
     }
 }

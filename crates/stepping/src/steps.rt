@@ -5,7 +5,7 @@ ghost use Rattle.events.specs.Answers.{refused_with};
 ghost use Rattle.events.specs.Machine.{machine};
 ghost use Rattle.events.specs.Step.{bus_by, taken_by, answer_by, stepped, after, step_of, sound_after, sound_step_of};
 
-use crate::answering::{answer_with, bare, signals_with};
+use crate::answering::{answer_with, bare_with, signals_with};
 use crate::cycles::cycle;
 use bus::numbers::ACCEPTED;
 use bus::{Bus, Refusal, Step};
@@ -22,9 +22,8 @@ fn accepted(step: Step, bus: Bus, event: Event, memory: &mut [u8], ports: &mut [
     ensures memory_left { memory.new ≡ (taken_by step (machine bus memory.old ports.old) event).memory }
     ensures ports_left { ports.new ≡ (taken_by step (machine bus memory.old ports.old) event).ports }
 {
-    let pages = bus.pages;
     let slave = Slave {
-        code: page_at(pages, event.address),
+        code: page_at(bus.pages, event.address),
     };
     let moved = cycle(slave, event, memory, ports);
     let next = bus.step_by(step, event.speaker, event.datum);
@@ -36,6 +35,7 @@ fn accepted(step: Step, bus: Bus, event: Event, memory: &mut [u8], ports: &mut [
 }
 
 // The step on a bus that makes sense, with memory and ports of the right lengths: neither is tested.
+#[tactic(auto, using(events::proofs::StepLaws::sound_after_by, events::proofs::StepLaws::sound_answer_by))]
 pub fn sound_step(bus: Bus, event: Event, memory: &mut [u8], ports: &mut [u8]) -> Stepped
     ensures both { result ≡ sound_step_of (machine bus memory.old ports.old) event }
     ensures memory_left { memory.new ≡ (sound_after (machine bus memory.old ports.old) event).memory }
@@ -48,6 +48,8 @@ pub fn sound_step(bus: Bus, event: Event, memory: &mut [u8], ports: &mut [u8]) -
 }
 
 // The step of any event on any bus, with memory and ports of any length.
+// Kept: memory and ports are two parameters, as the callers have them; a struct of both would be made here and taken apart again in `cycle`.
+#[tactic(auto, using(events::proofs::StepLaws::after_by, events::proofs::StepLaws::answer_to_by))]
 pub fn step(bus: Bus, event: Event, memory: &mut [u8], ports: &mut [u8]) -> Stepped
     ensures both { result ≡ step_of (machine bus memory.old ports.old) event }
     ensures memory_left { memory.new ≡ (after (machine bus memory.old ports.old) event).memory }
@@ -68,11 +70,8 @@ fn refused(refusal: Refusal, bus: Bus) -> Stepped
 {
     let number = u8::from(refusal);
     let answer = match refusal {
-        Refusal::WrongBuffers | Refusal::Senseless => bare(number),
+        Refusal::WrongBuffers | Refusal::Senseless => bare_with(number, 0),
         _ => answer_with(number, bus, signals(bus.phase), 0, Moved::NOTHING),
     };
-    Stepped {
-        bus: bus,
-        answer: answer,
-    }
+    Stepped { bus, answer }
 }
