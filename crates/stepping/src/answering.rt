@@ -1,19 +1,23 @@
 // What is answered to an event.
 ghost use Rattle.std.specs.Prelude.{◌≡◌};
+ghost use Rattle.memory.specs.Told.{moved_in};
 ghost use Rattle.events.specs.Answers.{answer_with, signals_with, word_signals, bare_with};
 
 use bus::Bus;
 use events::Answer;
 use memory::{Moved, Slave};
-use moving::asserts_sixtn;
 use phases::Kind;
 use phases::numbers::{S_XTRQ, SIXTN};
 use tables::signals;
 
 // What the bus shows, and beside it what a cycle had on it.
-pub fn answer_with(refusal: u8, bus: Bus, signals: u8, status: u8, moved: Moved) -> Answer
-    ensures { result ≡ answer_with refusal bus signals status moved }
+pub fn answer_with(refusal: u8, bus: Bus, signals: u8, status: u8, moved: Option<Moved>) -> Answer
+    ensures { result ≡ answer_with refusal bus signals status (moved_in moved) }
 {
+    let (cycles, datum) = match moved {
+        Some(moved) => (moved.cycles, moved.datum),
+        None => (0, 0),
+    };
     Answer {
         refusal,
         phase: bus.phase,
@@ -21,8 +25,8 @@ pub fn answer_with(refusal: u8, bus: Bus, signals: u8, status: u8, moved: Moved)
         lines: bus.lines(),
         signals,
         status,
-        cycles: moved.cycles,
-        datum: moved.datum,
+        cycles,
+        datum,
     }
 }
 
@@ -40,7 +44,7 @@ fn word_signals(kind: u8, slave: Slave) -> u8
     ensures { result ≡ word_signals kind slave }
 {
     match Kind::try_from(kind) {
-        Ok(kind) if kind.is_word() && asserts_sixtn(slave) => S_XTRQ + SIXTN,
+        Ok(kind) if kind.is_word() && slave.asserts_sixtn() => S_XTRQ + SIXTN,
         Ok(kind) if kind.is_word() => S_XTRQ,
         _ => 0,
     }

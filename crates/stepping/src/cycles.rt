@@ -1,5 +1,6 @@
 // What a cycle does to memory and ports.
 ghost use Rattle.std.specs.Prelude.{◌≡◌};
+ghost use Rattle.memory.specs.Told.{moved_in};
 ghost use Rattle.events.specs.Cycles.{moved_by, memory_left, ports_left};
 
 use judgement::Event;
@@ -8,8 +9,8 @@ use moving::{byte_read, byte_write, word_read, word_write};
 use phases::Kind;
 
 #[tactic(auto, unfolding(words::specs::Among::beside))]
-pub fn cycle(slave: Slave, event: Event, memory: &mut [u8], ports: &mut [u8]) -> Moved
-    ensures moved { result ≡ moved_by slave event memory.old ports.old }
+pub fn cycle(slave: Slave, event: Event, memory: &mut [u8], ports: &mut [u8]) -> Option<Moved>
+    ensures moved { moved_in result ≡ moved_by slave event memory.old ports.old }
     ensures memory_left { memory.new ≡ memory_left slave event memory.old }
     ensures ports_left { ports.new ≡ ports_left event ports.old }
 {
@@ -23,6 +24,6 @@ pub fn cycle(slave: Slave, event: Event, memory: &mut [u8], ports: &mut [u8]) ->
         Ok(Kind::WordWrite) => word_write(memory, at, datum, slave),
         Ok(Kind::Input) => byte_read(ports, at),
         Ok(Kind::Output) => byte_write(ports, at, byte),
-        _ => Moved::NOTHING,
+        _ => None,
     }
 }

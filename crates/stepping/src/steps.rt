@@ -12,7 +12,7 @@ use bus::{Bus, Refusal, Step};
 use events::Stepped;
 use judgement::Event;
 use judging::{judge, page_at};
-use memory::{Moved, Slave};
+use memory::Slave;
 use sense::makes_sense;
 use tables::{signals, status};
 
@@ -71,7 +71,7 @@ fn refused(refusal: Refusal, bus: Bus) -> Stepped
     let number = u8::from(refusal);
     let answer = match refusal {
         Refusal::WrongBuffers | Refusal::Senseless => bare_with(number, 0),
-        _ => answer_with(number, bus, signals(bus.phase), 0, Moved::NOTHING),
+        _ => answer_with(number, bus, signals(bus.phase), 0, None),
     };
     Stepped { bus, answer }
 }
