@@ -1,7 +1,9 @@
 // The phases, the kinds of events and what stands on the lines, by number.
 #![tactic(auto)]
 
+mod drivers;
 mod kinds;
 pub mod numbers;
 
+pub use drivers::Driver;
 pub use kinds::{Kind, UnknownKind};
