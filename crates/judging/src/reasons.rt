@@ -22,40 +22,38 @@ impl KnownEvent {
     pub fn is_malformed(self) -> bool
         ensures { result ≡ is_malformed self.event }
     {
-        (PERMANENT_MASTER < self.event.speaker)
-            | self.has_stray_field()
-            | (most_datum(self.kind) < self.event.datum)
+        PERMANENT_MASTER < self.event.speaker
+            || self.has_stray_field()
+            || most_datum(self.kind) < self.event.datum
     }
 
     fn has_stray_field(self) -> bool
         ensures { result ≡ has_stray_field self.event }
     {
-        (!lists_speaker(self.kind) & (self.event.speaker != 0))
-            | (!lists_address(self.kind) & (self.event.address != 0))
+        !lists_speaker(self.kind) && self.event.speaker != 0
+            || !lists_address(self.kind) && self.event.address != 0
     }
 
     // 04
     pub fn names_nobody(self) -> bool
         ensures { result ≡ names_nobody self.event }
     {
-        (self.kind == Kind::Request) & !some_card(self.event.datum)
+        self.kind == Kind::Request && !some_card(self.event.datum)
     }
 
     // 05
     pub fn names_unfitted(self, fitted: u16) -> bool
         ensures { result ≡ names_unfitted fitted self.event }
     {
-        (lists_speaker(self.kind)
-            & (self.event.speaker <= 15)
-            & !card_in(fitted, self.event.speaker))
-            | ((self.kind == Kind::Request) & !is_within(self.event.datum, fitted))
+        lists_speaker(self.kind) && self.event.speaker <= 15 && !card_in(fitted, self.event.speaker)
+            || self.kind == Kind::Request && !is_within(self.event.datum, fitted)
     }
 
     // 09
     pub fn is_odd_word(self) -> bool
         ensures { result ≡ is_odd_word self.event }
     {
-        self.kind.is_word() & (self.event.address % 2 != 0)
+        self.kind.is_word() && self.event.address % 2 != 0
     }
 
     // 0A
@@ -63,8 +61,8 @@ impl KnownEvent {
         ensures { result ≡ is_absent pages self.event }
     {
         let address = self.event.address;
-        (self.kind.is_of_memory() & ((0xFFFF < address) | (page_at(pages, address) == 0)))
-            | (self.kind.is_of_ports() & (0xFF < address))
+        self.kind.is_of_memory() && (0xFFFF < address || page_at(pages, address) == 0)
+            || self.kind.is_of_ports() && 0xFF < address
     }
 }
 

@@ -55,7 +55,7 @@ pub fn step(bus: Bus, event: Event, memory: &mut [u8], ports: &mut [u8]) -> Step
     ensures memory_left { memory.new ≡ (after (machine bus memory.old ports.old) event).memory }
     ensures ports_left { ports.new ≡ (after (machine bus memory.old ports.old) event).ports }
 {
-    if (memory.len() != 0x10000) | (ports.len() != 0x100) {
+    if memory.len() != 0x10000 || ports.len() != 0x100 {
         return refused(Refusal::WrongBuffers, bus);
     }
     if !makes_sense(bus) {
