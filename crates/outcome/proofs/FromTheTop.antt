@@ -37,21 +37,27 @@ module _ {F : Type 0} (g : Mut F (Bor ℕ × Unit {0}) Bool) (f : F) (test : ℕ
         rest.0 ∙ step.0,
         rest.1,
         highest_passed test (rev_source s).end other (omega (arith, step.1.2)) (ap test at ∙ sym asked.1)
-        ∙ ap (λ (n : ℕ). highest_below test n other) down
-        ∙ rest.2,
+            ∙ ap (λ (n : ℕ). highest_below test n other) down
+            ∙ rest.2,
       )
 
-  pub found_from_the_top : (s u : Rev (Range ℕ)) (found : Option ℕ) → (rev_source s).start ≡ 0
-      → FindsItem (rev_steps nat_range_steps_back) g s f found u → unwrap_or found other ≡ highest s
-  found_from_the_top s u None zero finds =
-      let last = finds.2.0 in
-      let before = passed finds.0 s last finds.1 finds.2.1 finds.3 in
-      sym (before.2 ∙ highest_ends test (rev_source last).end other (omega (arith, before.0, zero, finds.2.2.1.0)))
-  found_from_the_top s u (Some x) zero finds =
-      let last = finds.2.0 in
-      let step = finds.2.2 in
-      let before = passed finds.0 s last finds.1 finds.2.1 finds.3 in
-      let at : (rev_source last).end - 1 ≡ x = omega (arith, step.1.1, step.1.2) in
-      let called = subst (λ (p : F). CalledAt g p x true finds.4.0) before.1 finds.4.1 in
-      let passes : test ((rev_source last).end - 1) ≡ true = ap test at ∙ sym (asks x true finds.4.0 called).1 in
-      sym (before.2 ∙ highest_here test (rev_source last).end other (omega (arith, step.1.2)) passes ∙ at)
+  pub found_from_the_top : (n : ℕ) (s u : Rev (Range ℕ)) (found : Option ℕ) → rev_source s ≡ record { start = 0; end = n }
+      → FindsItem (rev_steps nat_range_steps_back) g s f found u → unwrap_or found other ≡ highest_below test n other
+  found_from_the_top n s u found source finds =
+      let zero : (rev_source s).start ≡ 0 = ap (λ (r : Range ℕ). r.start) source in
+      from_source found zero finds ∙ ap (λ (r : Range ℕ). highest_below test r.end other) source
+    where
+      from_source : (found : Option ℕ) → (rev_source s).start ≡ 0 → FindsItem (rev_steps nat_range_steps_back) g s f found u
+          → unwrap_or found other ≡ highest s
+      from_source None zero finds =
+          let last = finds.2.0 in
+          let before = passed finds.0 s last finds.1 finds.2.1 finds.3 in
+          sym (before.2 ∙ highest_ends test (rev_source last).end other (omega (arith, before.0, zero, finds.2.2.1.0)))
+      from_source (Some x) zero finds =
+          let last = finds.2.0 in
+          let step = finds.2.2 in
+          let before = passed finds.0 s last finds.1 finds.2.1 finds.3 in
+          let at : (rev_source last).end - 1 ≡ x = omega (arith, step.1.1, step.1.2) in
+          let called = subst (λ (p : F). CalledAt g p x true finds.4.0) before.1 finds.4.1 in
+          let passes : test ((rev_source last).end - 1) ≡ true = ap test at ∙ sym (asks x true finds.4.0 called).1 in
+          sym (before.2 ∙ highest_here test (rev_source last).end other (omega (arith, step.1.2)) passes ∙ at)

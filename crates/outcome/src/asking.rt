@@ -60,12 +60,7 @@ fn line_lost(card: u8, lines: u8) -> Option<u8>
     ensures which { unwrap_or result no_line ≡ line_lost card lines }
     ensures within { IfSome result (λ line. line < 4) }
 {
-    for line in (0..4u8).rev() {
-        if ((card >> line) % 2 != 1) & ((lines >> line) % 2 == 1) {
-            return Some(line);
-        }
-    }
-    None
+    (0..4u8).rev().find(|&line| (card >> line) % 2 != 1 && (lines >> line) % 2 == 1)
 }
 
 // The highest-numbered contender that drives the line.
@@ -74,11 +69,7 @@ fn rival_at(bus: Bus, line: u8) -> Option<u8>
     ensures which { unwrap_or result nobody ≡ rival_at bus line }
     ensures within { IfSome result (λ card. card < 16) }
 {
-    let driven = bus.driven;
-    for card in (0..16u8).rev() {
-        if card_in(bus.contenders, card) & ((driven[card as usize] >> line) % 2 == 1) {
-            return Some(card);
-        }
-    }
-    None
+    (0..16u8).rev().find(|&card| {
+        card_in(bus.contenders, card) && (bus.driven[usize::from(card)] >> line) % 2 == 1
+    })
 }
