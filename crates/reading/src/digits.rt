@@ -1,39 +1,91 @@
-// Hexadecimal digits, read without a branch on their kind: which of the two kinds comes next can't be foreseen.
-ghost use Rattle.std.specs.Prelude.{true, ◌≡◌, ◌%◌};
-ghost use Rattle.text.specs.Digits.{is_digit, value_of};
-ghost use Rattle.text.specs.Faults.{leading_digits};
+// Hexadecimal digits, and lines of them.
+ghost use Rattle.std.specs.Prelude.{true, ◌≡◌, ◌+◌, ◌<◌, ◌≤◌, get_or, IfOk, IfErr};
+ghost use Rattle.std.specs.Prelude.{not};
+ghost use Rattle.std.specs.List.{position};
+ghost use Rattle.words.specs.Among.{every_listed};
+ghost use Rattle.text.specs.Digits.{is_digit, is_digits, value_of, number_of};
+ghost use Rattle.text.specs.Faults.{leading_digits, fault_of};
+ghost use Rattle.text.specs.Frames.{digits_from};
+ghost use Rattle.text.specs.Told.{fault_told};
 
-// From the byte 0 on to the byte F, a one for each that is a digit.
-const DIGITS: u32 = 0x7E03FF;
+use text::Fault;
 
-pub fn is_digit(b: u8) -> bool
+fn is_digit(b: u8) -> bool
     ensures { result ≡ is_digit b }
 {
-    if (b < 0x30) | (0x46 < b) {
-        false
-    } else {
-        (DIGITS >> (b - 0x30)) % 2 == 1
-    }
+    matches!(b, b'0'..=b'9' | b'A'..=b'F')
 }
 
-// A letter's low half is 9 short of its value.
-pub fn value(b: u8) -> u8
+// Without a branch on the kind of digit: which of the two comes next can't be foreseen. A letter's low half is 9 short of its value.
+fn value(b: u8) -> u8
     requires { is_digit b ≡ true }
     ensures { result ≡ value_of b }
 {
     b % 16 + b / 64 * 9
 }
 
-// How many digits come before the first byte that is none.
-pub fn leading_digits(line: &[u8]) -> usize
-    ensures { result ≡ leading_digits line.now }
+// Where the first byte stands that is no digit.
+fn first_wrong(line: &[u8]) -> Option<usize>
+    ensures { result ≡ position (λ b. not (is_digit b)) line.now }
 {
-    let mut i: usize = 0;
-    while i < line.len() {
-        if !is_digit(line[i]) {
-            return i;
+    line.iter().position(|b| !is_digit(*b))
+}
+
+// A line of so many digits.
+#[derive(Clone, Copy)]
+pub struct Digits<'a, const N: usize> {
+    line: &'a [u8; N],
+    ghost right: { is_digits N line.now ≡ true },
+}
+
+impl<'a, const N: usize> Digits<'a, N> {
+    // Where a byte is no digit, how many digits come before it.
+    pub fn of(line: &'a [u8; N]) -> Result<Self, usize>
+        ensures ok { IfOk result (λ digits. digits.line.now ≡ line.now) }
+        ensures err { IfErr result (λ leading. (leading ≡ leading_digits line.now) × (leading < N)) }
+    {
+        match first_wrong(line) {
+            None => Ok(Digits { line }),
+            Some(leading) => Err(leading),
         }
-        i += 1;
     }
-    i
+
+    pub fn read(line: &'a [u8]) -> Result<Self, Fault>
+        requires { N < 0x100 }
+        ensures ok { IfOk result (λ digits. digits.line.now ≡ line.now) }
+        ensures err { IfErr result (λ found. fault_told found ≡ fault_of N line.now) }
+    {
+        match <&[u8; N]>::try_from(line) {
+            Ok(line) => match Digits::of(line) {
+                Ok(digits) => Ok(digits),
+                Err(leading) => Err(Fault::WrongCharacter {
+                    column: leading as u8 + 1,
+                }),
+            },
+            Err(_) => Err(Fault::WrongLength),
+        }
+    }
+
+    pub fn value(self, at: usize) -> u8
+        requires { at < N }
+        ensures is { result ≡ value_of (get_or self.entry.line.now at 0) }
+        ensures small { result < 16 }
+    {
+        value(self.line[at])
+    }
+
+    // The number in two digits from a place on.
+    pub fn two(self, at: usize) -> u8
+        requires { at + 2 ≤ N }
+        ensures { result ≡ number_of (digits_from at 2 self.entry.line.now) }
+    {
+        self.value(at) * 16 + self.value(at + 1)
+    }
+
+    pub fn four(self, at: usize) -> u16
+        requires { at + 4 ≤ N }
+        ensures { result ≡ number_of (digits_from at 4 self.entry.line.now) }
+    {
+        u16::from_be_bytes([self.two(at), self.two(at + 2)])
+    }
 }

@@ -1,148 +1,125 @@
 // What a text begins with, and the two kinds of line that are read.
-ghost use Rattle.std.specs.Prelude.{true, ◌≡◌, ◌+◌, ◌≤◌, length};
-ghost use Rattle.words.specs.Among.{every_listed};
-ghost use Rattle.text.specs.Digits.{is_digit, number_of};
-ghost use Rattle.text.specs.Newlines.{first_line};
-ghost use Rattle.text.specs.Frames.{digits_from, event_digits, event_in, bad_line, line_in, next_line, setup_digits, pages_in, chassis_in, setup_in};
+ghost use Rattle.std.specs.Prelude.{ℕ, ◌≡◌, ◌+◌, ◌<◌, eqb, length, get_or, take, MatchOption};
+ghost use Rattle.std.specs.List.{position};
+ghost use Rattle.text.specs.Digits.{value_of};
+ghost use Rattle.text.specs.Faults.{leading_digits};
+ghost use Rattle.text.specs.Newlines.{newline, first_line};
+ghost use Rattle.text.specs.Frames.{event_digits, event_in, bad_line, line_in, next_line, setup_in, chassis_in};
+ghost use Rattle.text.specs.Told.{bad_line_told, line_told, next_line_told, setup_told};
 
-use crate::digits::{leading_digits, value};
-use crate::faults::{fault_by, fault_of};
-use bus::numbers::*;
-use bus::{Chassis, EMPTY_CHASSIS};
+use crate::digits::Digits;
+use bus::Chassis;
 use judgement::Event;
+use text::Fault;
 use text::frames::*;
+
+// How many bytes come before the first newline, None where there is none.
+pub fn newline_at(text: &[u8]) -> Option<usize>
+    ensures { result ≡ position (λ b. eqb b newline) text.now }
+{
+    text.iter().position(|b| *b == NEWLINE)
+}
 
 // How many bytes come before the first newline.
 pub fn line_end(text: &[u8]) -> usize
     ensures { result ≡ length (first_line text.now) }
 {
-    let mut i: usize = 0;
-    while i < text.len() {
-        if text[i] == NEWLINE {
-            return i;
-        }
-        i += 1;
-    }
-    i
+    newline_at(text).unwrap_or(text.len())
 }
 
-// An event line is seen by the newline at its place; without one there the line has another length.
-pub fn next_line(text: &[u8]) -> Line
-    ensures { result ≡ next_line text.now }
+// None where the line isn't ended yet. An event line is seen by the newline at its place; without one there the line has another length.
+pub fn next_line(text: &[u8]) -> Option<Result<Event, BadLine>>
+    ensures { next_line_told result ≡ next_line text.now }
 {
-    if EVENT_DIGITS < text.len() {
-        if text[EVENT_DIGITS] == NEWLINE {
-            return closed_line(&text[..EVENT_DIGITS]);
+    match before_newline(text) {
+        Some(line) => Some(closed_line(line)),
+        None => {
+            let size = newline_at(text)?;
+            Some(Err(BadLine {
+                size,
+                fault: Fault::WrongLength,
+            }))
         }
     }
-    let end = line_end(text);
-    if end < text.len() {
-        Line::Bad(BadLine {
-            size: end,
-            fault: fault_by(end, 0, EVENT_DIGITS),
-        })
-    } else {
-        Line::Unended
+}
+
+// The fourteen bytes before a newline at its place.
+fn before_newline(text: &[u8]) -> Option<&[u8; EVENT_DIGITS]>
+    ensures { MatchOption result (event_digits < length text.now → get_or text.now event_digits 0 ≡ newline → ⊥)
+        (λ line. (line.now ≡ take event_digits text.now) × (event_digits < length text.now) × (get_or text.now event_digits 0 ≡ newline)) }
+{
+    match text.split_first_chunk() {
+        Some((line, [NEWLINE, ..])) => Some(line),
+        _ => None,
     }
 }
 
 // The line in fourteen bytes with a newline behind them; another newline among them ends it there.
-fn closed_line(line: &[u8]) -> Line
-    requires { length line.now ≡ event_digits }
-    ensures { result ≡ line_in (first_line line.now) }
+fn closed_line(line: &[u8; EVENT_DIGITS]) -> Result<Event, BadLine>
+    ensures { line_told result ≡ line_in (first_line line.now) }
 {
-    if leading_digits(line) == EVENT_DIGITS {
-        Line::Frame(event_in(line))
-    } else {
-        Line::Bad(bad_line(line))
+    match Digits::of(line) {
+        Ok(digits) => Ok(event_in(digits)),
+        Err(leading) => Err(bad_line(line, leading)),
     }
 }
 
 // Its end is looked for behind the digits that lead.
-fn bad_line(line: &[u8]) -> BadLine
-    requires { length line.now ≡ event_digits }
-    ensures { result ≡ bad_line (first_line line.now) }
+fn bad_line(line: &[u8; EVENT_DIGITS], leading: usize) -> BadLine
+    requires is { leading ≡ leading_digits line.now }
+    requires some { leading < event_digits }
+    ensures { bad_line_told result ≡ bad_line (first_line line.now) }
 {
-    let leading = leading_digits(line);
-    let end = leading + line_end(&line[leading..]);
-    BadLine {
-        size: end,
-        fault: fault_by(end, leading, EVENT_DIGITS),
-    }
-}
-
-fn event_in(line: &[u8]) -> Event
-    requires line_len { length line.now ≡ event_digits }
-    requires line_value { every_listed is_digit line.now ≡ true }
-    ensures { result ≡ event_in line.now }
-{
-    Event {
-        kind: two(line, KIND_AT),
-        speaker: two(line, SPEAKER_AT),
-        address: two(line, ADDRESS_AT) as u32 * 0x10000 + four(line, ADDRESS_AT + 2) as u32,
-        datum: four(line, DATUM_AT),
-    }
-}
-
-// The number in two digits from a place on.
-fn two(line: &[u8], at: usize) -> u8
-    requires at_in_bounds { at + 2 ≤ length line.now }
-    requires line_value { every_listed is_digit line.now ≡ true }
-    ensures { result ≡ number_of (digits_from at 2 line.now) }
-{
-    let high = value(line[at]);
-    let low = value(line[at + 1]);
-    high * 16 + low
-}
-
-fn four(line: &[u8], at: usize) -> u16
-    requires at_in_bounds { at + 4 ≤ length line.now }
-    requires line_value { every_listed is_digit line.now ≡ true }
-    ensures { result ≡ number_of (digits_from at 4 line.now) }
-{
-    let high = two(line, at);
-    let low = two(line, at + 2);
-    high as u16 * 0x100 + low as u16
-}
-
-pub fn setup_line(line: &[u8]) -> SetupLine
-    ensures { result ≡ setup_in line.now }
-{
-    let fault = fault_of(line, SETUP_DIGITS);
-    if fault.refusal == ACCEPTED {
-        SetupLine {
-            fault: fault,
-            chassis: chassis_in(line),
+    let size = leading + line_end(&line[leading..]);
+    let fault = if size == EVENT_DIGITS {
+        Fault::WrongCharacter {
+            column: leading as u8 + 1,
         }
     } else {
-        SetupLine {
-            fault: fault,
-            chassis: EMPTY_CHASSIS,
-        }
+        Fault::WrongLength
+    };
+    BadLine { size, fault }
+}
+
+fn event_in(line: Digits<EVENT_DIGITS>) -> Event
+    ensures { result ≡ event_in line.entry.line.now }
+{
+    Event {
+        kind: line.two(KIND_AT),
+        speaker: line.two(SPEAKER_AT),
+        address: u32::from_be_bytes([
+            0,
+            line.two(ADDRESS_AT),
+            line.two(ADDRESS_AT + 2),
+            line.two(ADDRESS_AT + 4),
+        ]),
+        datum: line.four(DATUM_AT),
     }
 }
 
-fn chassis_in(line: &[u8]) -> Chassis
-    requires line_len { length line.now ≡ setup_digits }
-    requires line_value { every_listed is_digit line.now ≡ true }
-    ensures { result ≡ chassis_in line.now }
+pub fn setup_line(line: &[u8]) -> Result<Chassis, Fault>
+    ensures { setup_told result ≡ setup_in line.now }
+{
+    let digits = Digits::read(line)?;
+    Ok(chassis_in(digits))
+}
+
+fn chassis_in(line: Digits<SETUP_DIGITS>) -> Chassis
+    ensures { result ≡ chassis_in line.entry.line.now }
 {
     Chassis {
-        fitted: four(line, FITTED_AT),
+        fitted: line.four(FITTED_AT),
         pages: pages_in(line),
     }
 }
 
-fn pages_in(line: &[u8]) -> [u8; 16]
-    requires line_len { length line.now ≡ setup_digits }
-    requires line_value { every_listed is_digit line.now ≡ true }
-    ensures { result ≡ pages_in line.now }
+fn pages_in(line: Digits<SETUP_DIGITS>) -> [u8; 16]
+    ensures long { length result ≡ 16 }
+    ensures each { (page : ℕ) → page < 16 → get_or result page 0 ≡ value_of (get_or line.entry.line.now (4 + page) 0) }
 {
-    let mut pages = [0u8; 16];
-    let mut i: usize = 0;
-    while i < 16 {
-        pages[i] = value(line[PAGES_AT + i]);
-        i += 1;
+    let mut pages = [0; 16];
+    for page in 0..16 {
+        pages[page] = line.value(PAGES_AT + page);
     }
     pages
 }

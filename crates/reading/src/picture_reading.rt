@@ -1,131 +1,77 @@
 // A line of a picture, read again: what its pins tell of phase, signals and priority lines.
-ghost use Rattle.std.specs.Prelude.{true, cond, not, ◌≡◌, ◌+◌, ◌<◌, ◌≤◌, length};
-ghost use Rattle.words.specs.Among.{every_listed};
-ghost use Rattle.text.specs.Digits.{is_digit};
-ghost use Rattle.pins.specs.Picture.{picture_digits};
-ghost use Rattle.pins.specs.ReadAgain.{bit_from, true_on, signals_on, priority_lines_on, phase_with, seen_on, picture_in};
-ghost use Rattle.reading.specs.Signals.{disabling_on, others_on};
+ghost use Rattle.std.specs.Prelude.{cond, not, ◌≡◌, ◌<◌, ◌≤◌, IfOk, IfSome};
+ghost use Rattle.phases.specs.Phase.{transfer_two};
+ghost use Rattle.pins.specs.ReadAgain.{bit_from, true_on, signals_on, priority_lines_on, phase_with, picture_in};
+ghost use Rattle.pins.specs.Told.{phase_told, picture_told};
 
-use crate::digits::value;
-use crate::faults::fault_of;
-use bus::numbers::*;
+use crate::digits::Digits;
 use phases::numbers::*;
 use pins::Seen;
 use pins::sizes::*;
+use text::Fault;
 
-// Where no phase has the signals.
-const NO_PHASE: u8 = 0xFF;
+type Picture<'a> = Digits<'a, PICTURE_DIGITS>;
 
-pub fn picture_line(line: &[u8]) -> Seen
-    ensures { result ≡ picture_in line.now }
+#[tactic(auto, unfolding(pins::specs::ReadAgain::picture_in))]
+pub fn picture_line(line: &[u8]) -> Result<Seen, Fault>
+    ensures told { picture_told result ≡ picture_in line.now }
+    ensures phase { IfOk result (λ on. IfSome on.phase (λ phase. phase ≤ transfer_two)) }
 {
-    let fault = fault_of(line, PICTURE_DIGITS);
-    if fault.refusal == ACCEPTED {
-        seen_on(line)
-    } else {
-        Seen {
-            refusal: fault.refusal,
-            phase: 0,
-            signals: 0,
-            lines: 0,
-            column: fault.column,
-        }
-    }
-}
-
-fn seen_on(line: &[u8]) -> Seen
-    requires line_len { length line.now ≡ picture_digits }
-    requires line_value { every_listed is_digit line.now ≡ true }
-    ensures { result ≡ seen_on line.now }
-{
-    let signals = signals_on(line);
-    Seen {
-        refusal: ACCEPTED,
+    let picture = Digits::read(line)?;
+    let signals = signals_on(picture);
+    Ok(Seen {
         phase: phase_with(signals),
-        signals: signals,
-        lines: lines_on(line),
-        column: 0,
-    }
+        signals,
+        lines: lines_on(picture),
+    })
 }
 
-fn signals_on(line: &[u8]) -> u8
-    requires line_len { length line.now ≡ picture_digits }
-    requires line_value { every_listed is_digit line.now ≡ true }
-    ensures { result ≡ signals_on line.now }
+fn signals_on(picture: Picture) -> u8
+    ensures { result ≡ signals_on picture.entry.line.now }
 {
-    disabling_on(line) + others_on(line)
-}
-
-// The disable lines.
-fn disabling_on(line: &[u8]) -> u8
-    requires line_len { length line.now ≡ picture_digits }
-    requires line_value { every_listed is_digit line.now ≡ true }
-    ensures is { result ≡ disabling_on line.now }
-    ensures at_most { result ≤ 0x3C }
-{
-    weight_on(line, 18, true, SDSB)
-        + weight_on(line, 19, true, CDSB)
-        + weight_on(line, 22, true, ADSB)
-        + weight_on(line, 23, true, DODSB)
-}
-
-fn others_on(line: &[u8]) -> u8
-    requires line_len { length line.now ≡ picture_digits }
-    requires line_value { every_listed is_digit line.now ≡ true }
-    ensures is { result ≡ others_on line.now }
-    ensures at_most { result ≤ 0xC3 }
-{
-    weight_on(line, 26, false, P_HLDA)
-        + weight_on(line, 58, true, S_XTRQ)
-        + weight_on(line, 60, true, SIXTN)
-        + weight_on(line, 74, true, HOLD)
+    weight_on(picture, 18, true, SDSB)
+        + weight_on(picture, 19, true, CDSB)
+        + weight_on(picture, 22, true, ADSB)
+        + weight_on(picture, 23, true, DODSB)
+        + weight_on(picture, 26, false, P_HLDA)
+        + weight_on(picture, 58, true, S_XTRQ)
+        + weight_on(picture, 60, true, SIXTN)
+        + weight_on(picture, 74, true, HOLD)
 }
 
 // The priority lines, DMA3 first, as their pins come.
-fn lines_on(line: &[u8]) -> u8
-    requires line_len { length line.now ≡ picture_digits }
-    requires line_value { every_listed is_digit line.now ≡ true }
-    ensures { result ≡ priority_lines_on line.now }
+fn lines_on(picture: Picture) -> u8
+    ensures { result ≡ priority_lines_on picture.entry.line.now }
 {
-    weight_on(line, 14, true, 8)
-        + weight_on(line, 55, true, 1)
-        + weight_on(line, 56, true, 2)
-        + weight_on(line, 57, true, 4)
+    weight_on(picture, 14, true, 8)
+        + weight_on(picture, 55, true, 1)
+        + weight_on(picture, 56, true, 2)
+        + weight_on(picture, 57, true, 4)
 }
 
 // The weight of the line on a pin, where it is true.
-fn weight_on(line: &[u8], pin: usize, starred: bool, weight: u8) -> u8
-    requires line_len { length line.now ≡ picture_digits }
-    requires line_value { every_listed is_digit line.now ≡ true }
+fn weight_on(picture: Picture, pin: usize, starred: bool, weight: u8) -> u8
     requires pin_nonzero { 0 < pin }
     requires pin_bound { pin ≤ 100 }
-    ensures is { result ≡ cond (true_on line.now pin starred) weight 0 }
+    ensures is { result ≡ cond (true_on picture.entry.line.now pin starred) weight 0 }
     ensures at_most { result ≤ weight }
 {
-    let driven = bit_from(line, DRIVEN_AT, pin);
-    let high = bit_from(line, 0, pin);
-    if driven & is_true(high, starred) {
+    let driven = bit_from(picture, DRIVEN_AT, pin);
+    let high = bit_from(picture, 0, pin);
+    if driven & (high != starred) {
         weight
     } else {
         0
     }
 }
 
-fn is_true(high: bool, starred: bool) -> bool
-    ensures { result ≡ cond starred (not high) high }
-{
-    if starred { !high } else { high }
-}
-
-fn bit_from(line: &[u8], at: usize, pin: usize) -> bool
-    requires line_len { length line.now ≡ picture_digits }
-    requires line_value { every_listed is_digit line.now ≡ true }
+fn bit_from(picture: Picture, at: usize, pin: usize) -> bool
     requires pin_nonzero { 0 < pin }
     requires pin_bound { pin ≤ 100 }
     requires at_bound { at ≤ 25 }
-    ensures { result ≡ bit_from at line.now pin }
+    ensures { result ≡ bit_from at picture.entry.line.now pin }
 {
-    let digit = value(line[at + (pin - 1) / 4]);
+    let digit = picture.value(at + (pin - 1) / 4);
     (digit >> (3 - (pin - 1) % 4)) % 2 == 1
 }
 
@@ -140,17 +86,17 @@ const WHILE_OWNED: u8 = WITH_TRANSFER_ONE + CDSB;
 
 const WITH_TRANSFER_TWO: u8 = P_HLDA + DISABLING;
 
-fn phase_with(signals: u8) -> u8
-    ensures { result ≡ phase_with signals }
+fn phase_with(signals: u8) -> Option<u8>
+    ensures is { phase_told result ≡ phase_with signals }
+    ensures known { IfSome result (λ phase. phase ≤ transfer_two) }
 {
-    let standing = signals % SIXTN;
-    match standing {
-        0 => FREE,
-        HOLD => ARBITRATION,
-        WITH_GRANT => GRANTED,
-        WITH_TRANSFER_ONE => TRANSFER_ONE,
-        WHILE_OWNED => OWNED,
-        WITH_TRANSFER_TWO => TRANSFER_TWO,
-        _ => NO_PHASE,
+    match signals % SIXTN {
+        0 => Some(FREE),
+        HOLD => Some(ARBITRATION),
+        WITH_GRANT => Some(GRANTED),
+        WITH_TRANSFER_ONE => Some(TRANSFER_ONE),
+        WHILE_OWNED => Some(OWNED),
+        WITH_TRANSFER_TWO => Some(TRANSFER_TWO),
+        _ => None,
     }
 }

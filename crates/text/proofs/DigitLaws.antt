@@ -2,12 +2,14 @@
 use mathlib.Core.Path.{◌≡◌, refl, sym, ap, ◌∙◌}
 use mathlib.Core.Logic.{◌⊎◌, inl, inr, ⊎_elim}
 use mathlib.Core.Bool.{Bool, true, false, cond, not, ◌&&◌, ◌||◌, false≢true}
-use mathlib.Core.List.{List, [], ◌∷◌, ◌++◌, map, map-append}
+use mathlib.Core.List.{List, [], ◌∷◌, map}
 use Prim.Native.Nat.{ℕ, zero, suc, ◌+◌, ◌*◌, ◌-◌, ◌/◌, ◌%◌, ◌^◌, ◌<◌, ◌≤◌}
 use native.Mathlib.Omega.{arith}
 use lib.Dec.{eqb, leb, ltb}
-use lib.ListN.{length, get_or, take, drop, set, length-append, length-drop}
-use lib.Seq.{drop-cons, get_or-drop, take-suc, take-suc-set}
+use lib.ListN.{length, get_or, take, drop, length-append, length-drop}
+use lib.Seq.{drop-cons, length-take-le}
+use Rattle.std.proofs.lemmas.Grind.{same_number_lists}
+use Rattle.std.proofs.lemmas.List.{length-map, get_or-map, get_or-take, get_or-drop}
 use borrow.Author.Tests.{ltb-true, ltb-false, leb-true, leb-false, le-leb, lt-leb}
 use Rattle.words.specs.Below.{all_below}
 use Rattle.words.specs.Among.{every_listed}
@@ -128,14 +130,17 @@ not_all line i h e = ⊎_elim (λ all. absurd (false≢true (sym e ∙ every_at 
     is_digit line))
 
 -- digits from a place on, one by one
-pub page_next : (line pages : List ℕ) (at i : ℕ) → i < length pages → at + i < length line → take i pages ≡ map value_of (digits_from at i line)
-    → take (suc i) (set pages i (value_of (get_or line (at + i) 0))) ≡ map value_of (digits_from at (suc i) line)
-page_next line pages at i h within so =
-    take-suc-set pages i (value_of (get_or line (at + i) 0)) h
-    ∙ ap (λ (l : List ℕ). l ++ value_of (get_or line (at + i) 0) ∷ []) so
-    ∙ ap (λ (b : ℕ). map value_of (digits_from at i line) ++ value_of b ∷ []) (sym (get_or-drop at line i 0))
-    ∙ sym (map-append value_of (digits_from at i line) (get_or (drop at line) i 0 ∷ []))
-    ∙ ap (map value_of) (sym (take-suc (drop at line) i 0 (omega (arith, length-drop at line, within))))
+pub pages_from : (line pages : List ℕ) (at count : ℕ) → length pages ≡ count → at + count ≤ length line
+    → ((i : ℕ) → i < count → get_or pages i 0 ≡ value_of (get_or line (at + i) 0)) → pages ≡ map value_of (digits_from at count line)
+pages_from line pages at count long within each =
+    let digits = digits_from at count line in
+    let so_many : length digits ≡ count = omega (arith, length-take-le count (drop at line) (omega (arith, within, length-drop at line))) in
+    same_number_lists pages (map value_of digits) (omega (arith, long, so_many, length-map digits value_of)) (
+    λ k h.
+    let here : k < count = omega (arith, h, long) in
+    each k here
+    ∙ ap value_of (sym (get_or-drop at line k 0) ∙ sym (get_or-take count (drop at line) k 0 here))
+    ∙ sym (get_or-map value_of digits k 0 0 (omega (arith, here, so_many))))
 
 -- ---- Which bytes are digits, by a bit for each
 

@@ -9,6 +9,11 @@ use native.Mathlib.Omega.{arith}
 use lib.Dec.{eqb}
 use lib.ListN.{length, get_or}
 use borrow.Author.Tests.{eqb-true, eqb-false, eq-eqb, ne_eqb, not-true, not-false}
+use Rattle.std.specs.Prelude.{Some, None}
+use Rattle.std.specs.List.{position, position_or_len}
+use Rattle.std.proofs.lemmas.Grind.{common_steps}
+use Rattle.std.proofs.lemmas.List.Sums.{position_or_len_is}
+use Rattle.std.proofs.lemmas.List.Quantifiers.{position-Some}
 use Rattle.words.specs.Among.{every_listed}
 use Rattle.words.proofs.TestLaws.{true_or_false, both_of}
 use Rattle.words.proofs.ListLaws.{every_at, every_of}
@@ -60,6 +65,11 @@ leading_end line place end digits = go (dec_lt (leading_digits line) (length lin
         absurd (false≢true (sym (not-true _ (least_passes (spoils line) (length line) h)) ∙ digits (leading_digits line) (omega (arith, end, h))))
     go (no h) = omega (arith, end, leading_within line)
 
+leading_to_first : (line : List ℕ) → position_or_len (λ b. not (is_digit b)) line ≡ leading_digits line
+leading_to_first line =
+    position_or_len_is (λ b. not (is_digit b)) line (leading_digits line) 0 (leading_within line)
+    (λ k h. ap not (leading_digits_holds line k h)) (least_passes (spoils line) (length line))
+
 -- every byte is a digit exactly where so many lead
 pub all_lead : (line : List ℕ) → leading_digits line ≡ length line → every_listed is_digit line ≡ true
 all_lead line e = every_of is_digit line (λ k h. leading_digits_holds line k (omega (arith, e, h)))
@@ -69,6 +79,17 @@ leads_all line all = sym (leading_end line (length line) refl (every_at is_digit
 
 pub not_all_lead : (line : List ℕ) → (leading_digits line ≡ length line → ⊥) → every_listed is_digit line ≡ false
 not_all_lead line some = ⊎_elim (λ all. absurd (some (leads_all line all))) (λ none. none) (true_or_false (every_listed is_digit line))
+
+-- where the code looks for the first byte that is none
+pub wrong_at : (line : List ℕ) (place : ℕ) → position (λ b. not (is_digit b)) line ≡ Some place → (place < length line) × (place ≡ leading_digits line)
+wrong_at line place e =
+    let first = position-Some (λ b. not (is_digit b)) line place 0 e in (
+      first.0,
+      leading_at line place first.0 (λ k h. not-false _ (first.2 k h)) (not-true _ first.1),
+    )
+
+pub wrong_nowhere : (line : List ℕ) → position (λ b. not (is_digit b)) line ≡ None → every_listed is_digit line ≡ true
+wrong_nowhere line e = all_lead line (grind (arith, common_steps, leading_within line, leading_to_first line))
 
 -- ---- The first wrong character
 
@@ -101,6 +122,9 @@ abbrev number : Fault → ℕ
 number f = f.refusal
 
 -- what a right line is
+pub right_digits : (count : ℕ) (line : List ℕ) → length line ≡ count → every_listed is_digit line ≡ true → is_digits count line ≡ true
+right_digits count line size all = rw (eq-eqb (length line) count size, all) refl
+
 pub all_digits_of : (count : ℕ) (line : List ℕ) → is_digits count line ≡ true → (length line ≡ count) × (every_listed is_digit line ≡ true)
 all_digits_of count line right =
     let both = both_of (eqb (length line) count) (every_listed is_digit line) right in (eqb-true (length line) count both.0, both.1)
@@ -117,6 +141,13 @@ wrong_line_length_holds count line other = rw (ne_eqb (length line) count other)
 pub wrong_character_holds : (count : ℕ) (line : List ℕ) → length line ≡ count → every_listed is_digit line ≡ false
     → fault_of count line ≡ fault wrong_character (wrong_column line)
 wrong_character_holds count line size wrong = rw (eq-eqb (length line) count size, wrong) refl
+
+-- so many digits lead, and no more
+pub wrong_behind : (count : ℕ) (line : List ℕ) (leading : ℕ) → length line ≡ count → leading ≡ leading_digits line → leading < count
+    → fault wrong_character (leading + 1) ≡ fault_of count line
+wrong_behind count line leading size is fewer =
+    ap (fault wrong_character) (omega (arith, is))
+    ∙ sym (wrong_character_holds count line size (not_all_lead line (λ e. omega (arith, e, size, is, fewer))))
 
 pub misspelt : (count : ℕ) (line : List ℕ) (column : ℕ) → length line ≡ count → FirstWrong line column
     → fault_of count line ≡ fault wrong_character column

@@ -57,11 +57,11 @@ not_framed line size fewer =
     (true_or_false (is_digits event_digits (first_line line)))
 
 -- digits are passed over where the end of a line is looked for
-pub digits_passed : (line : List ℕ) (leading end : ℕ) → leading ≡ leading_digits line
-    → end ≡ length (first_line (take (length line - leading) (drop leading line))) → leading + end ≡ length (first_line line)
-digits_passed line leading end is found =
-    let rest : take (length line - leading) (drop leading line) ≡ drop leading line =
-    take_all (length line - leading) (drop leading line) (omega (arith, length-drop leading line)) in
+pub digits_passed : (line : List ℕ) (count leading end : ℕ) → length line ≡ count → leading ≡ leading_digits line
+    → end ≡ length (first_line (take (count - leading) (drop leading line))) → leading + end ≡ length (first_line line)
+digits_passed line count leading end size is found =
+    let rest : take (count - leading) (drop leading line) ≡ drop leading line =
+    take_all (count - leading) (drop leading line) (omega (arith, size, length-drop leading line)) in
     let past = line_past line leading (omega (arith, is, leading_within line))
     (λ k h. digit_stays (get_or line k 0) (leading_digits_holds line k (omega (arith, is, h)))) in
     omega (arith, found, ap (λ (l : List ℕ). length (first_line l)) rest, past)

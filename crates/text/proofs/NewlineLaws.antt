@@ -9,6 +9,11 @@ use lib.Dec.{eqb}
 use lib.ListN.{length, get_or, take, drop, length-append}
 use lib.Seq.{drop-cons, drop-length, take_at, get_or_at}
 use borrow.Author.Tests.{eqb-true, eqb-false, eq-eqb, ne_eqb}
+use Rattle.std.specs.Prelude.{Some, None}
+use Rattle.std.specs.List.{position, position_or_len}
+use Rattle.std.proofs.lemmas.Grind.{common_steps}
+use Rattle.std.proofs.lemmas.List.Quantifiers.{position-Some}
+use Rattle.std.proofs.lemmas.List.Recursion.{is_position_or_len}
 use Rattle.words.proofs.TestLaws.{true_or_false, else_of, neither_of}
 use Rattle.text.specs.Newlines.{newline, has_newline, first_line, rest_of}
 
@@ -114,3 +119,20 @@ unfolding has_newline
 none_at [] none i h e = omega (arith, h)
 none_at (b ∷ text) none zero h e = eqb-false b newline (neither_of (eqb b newline) (has_newline text) none).0 e
 none_at (b ∷ text) none (suc i) h e = none_at text (neither_of (eqb b newline) (has_newline text) none).1 i (omega (arith, h)) e
+
+-- where the code looks for the first newline
+ends_at : (text : List ℕ) → position_or_len (λ b. eqb b newline) text ≡ length (first_line text)
+unfolding first_line
+ends_at text =
+    sym (is_position_or_len (λ l. length (first_line l)) (λ b. eqb b newline) refl
+    (λ b l. ⊎_elim (λ t. rw t refl) (λ t. rw t (omega arith)) (true_or_false (eqb b newline))) text)
+
+pub newline_somewhere : (text : List ℕ) (place : ℕ) → position (λ b. eqb b newline) text ≡ Some place
+    → (has_newline text ≡ true) × (place ≡ length (first_line text))
+newline_somewhere text place e =
+    let first = position-Some (λ b. eqb b newline) text place 0 e in
+    let is : place ≡ length (first_line text) = grind (arith, common_steps, ends_at text) in
+    (ends_within text place is first.0, is)
+
+pub newline_nowhere : (text : List ℕ) → position (λ b. eqb b newline) text ≡ None → has_newline text ≡ false
+newline_nowhere text e = ends_beyond text (length (first_line text)) refl (grind (arith, common_steps, ends_at text))

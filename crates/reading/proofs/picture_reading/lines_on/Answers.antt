@@ -1,6 +1,6 @@
 -- Four weights.
 use native.Mathlib.Omega.{arith}
-use Rattle.reading.proofs.SignalLaws.{lines_four}
+use Rattle.pins.proofs.GatherLaws.{lines_in_order}
 use Rattle.reading.proofs.picture_reading.lines_on.Goals as goal
 
 pub returns : goal.returns
@@ -11,5 +11,5 @@ returns c =
       c.weight_on-2.ensures.is,
       c.weight_on-3.ensures.is,
       c.weight_on-4.ensures.is,
-      lines_four c.args.line.now,
+      lines_in_order c.args.picture.line.now,
     )

@@ -1,7 +1,19 @@
--- Two parts.
+-- Eight weights.
 use native.Mathlib.Omega.{arith}
-use Rattle.reading.proofs.SignalLaws.{signals_parts}
+use Rattle.pins.proofs.GatherLaws.{signals_in_order}
 use Rattle.reading.proofs.picture_reading.signals_on.Goals as goal
 
 pub returns : goal.returns
-returns c = omega (arith, c.disabling_on.ensures.is, c.others_on.ensures.is, signals_parts c.args.line.now)
+returns c =
+    omega (
+      arith,
+      c.weight_on.ensures.is,
+      c.weight_on-2.ensures.is,
+      c.weight_on-3.ensures.is,
+      c.weight_on-4.ensures.is,
+      c.weight_on-5.ensures.is,
+      c.weight_on-6.ensures.is,
+      c.weight_on-7.ensures.is,
+      c.weight_on-8.ensures.is,
+      signals_in_order c.args.picture.line.now,
+    )

@@ -1,0 +1,11 @@
+-- Two numbers of two digits.
+use native.Mathlib.Omega.{arith}
+use Rattle.text.proofs.DigitLaws.{four_digits}
+use Rattle.text.proofs.FaultLaws.{all_digits_of}
+use Rattle.reading.proofs.digits.Digits.four.Goals as goal
+
+pub returns : goal.returns
+returns g c =
+    let line = c.args.self.line.now in
+    let long = (all_digits_of g.row.N line c.args.self.right).0 in
+    omega (arith, c.from_be_bytes.ensures, c.two.ensures, c.two-2.ensures, four_digits c.args.at line (omega (arith, long)))
