@@ -1,4 +1,4 @@
-// The numbers of phases, kinds of events, drivers, signals, status and control outputs, as constants; specs/ has a definition for each.
+// The numbers of phases, signals, status and control outputs, as constants; specs/ has a definition for each.
 
 // Phases.
 pub const FREE: u8 = 0;
@@ -16,16 +16,6 @@ pub const TRANSFER_TWO: u8 = 5;
 pub const LAST_PHASE: u8 = TRANSFER_TWO;
 
 // Kinds of events.
-pub const REQUEST: u8 = 0x01;
-
-pub const LOOK: u8 = 0x02;
-
-pub const ACKNOWLEDGE: u8 = 0x03;
-
-pub const BEGIN_TRANSFER_ONE: u8 = 0x04;
-
-pub const TAKE_BUS: u8 = 0x05;
-
 pub const BYTE_READ: u8 = 0x06;
 
 pub const OPCODE_FETCH: u8 = 0x07;
@@ -39,23 +29,6 @@ pub const WORD_WRITE: u8 = 0x0A;
 pub const INPUT: u8 = 0x0B;
 
 pub const OUTPUT: u8 = 0x0C;
-
-pub const BEGIN_TRANSFER_TWO: u8 = 0x0D;
-
-pub const GIVE_BACK: u8 = 0x0E;
-
-pub const RESET: u8 = 0x0F;
-
-pub const LAST_KIND: u8 = RESET;
-
-// Who drives a group of lines.
-pub const NO_DRIVER: u8 = 0;
-
-pub const PERMANENT: u8 = 1;
-
-pub const CARD: u8 = 2;
-
-pub const BOTH: u8 = 3;
 
 // Signals that go by the phase.
 pub const HOLD: u8 = 0x01;
