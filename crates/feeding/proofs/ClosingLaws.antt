@@ -1,5 +1,6 @@
 -- What is put at the end of the input, by the stage and by what is wanted.
 use mathlib.Core.Path.{◌≡◌, refl, sym, ap, subst, ◌∙◌}
+use mathlib.Core.Logic.{◌⊎◌, ⊎_elim}
 use mathlib.Core.Bool.{Bool, true, false, cond}
 use mathlib.Core.List.{List, []}
 use Prim.Native.Nat.{ℕ, ◌+◌, ◌-◌, ◌≤◌}
@@ -15,12 +16,11 @@ use Rattle.text.specs.OutcomeLine.{outcome_lines, outcomes_length, outcomes_put,
 use Rattle.text.proofs.OutcomeLines.{outcomes_long}
 use Rattle.text.proofs.TakingLaws.{part_behind, home}
 use Rattle.session.specs.World.{outcomes_left, closing, most_said}
-use Rattle.session.specs.Feeding.{closed_in, with_more}
+use Rattle.session.specs.Feeding.{Fed, closed_in, with_more}
 use Rattle.session.specs.declared.state.Stage.{Stage}
 use Rattle.session.specs.declared.state.Stage.TheVariants.{Awaiting, Running, Ended}
 use Rattle.session.specs.declared.state.Session.{Session}
 use Rattle.session.specs.declared.state.Wanted.{Wanted}
-use Rattle.session.specs.declared.calls.Fed.{Fed}
 use Rattle.session.proofs.LoopLaws.{closing_at_most}
 use Rattle.session.proofs.FeedLaws.{ClosedAs}
 use Rattle.feeding.proofs.SayingLaws.{PutAs}
@@ -46,20 +46,11 @@ module _ (stage : Stage) (bus : Bus) (place : List ℕ) where
       go false put = put
 
   pub outcomes_left_holds : (written : ℕ) (place' : List ℕ) → (written ≡ outcome_bytes_put place) × (place' ≡ outcomes_put bus place)
-      → stage ≡ Running → PutAs left place written place'
+      → (stage ≡ Running) ⊎ (stage ≡ Ended) → PutAs left place written place'
   unfolding outcomes_left
-  outcomes_left_holds written place' put is = outcomes_as (ap (λ (s : Stage). outcomes_left s bus) is) written place' put
-
-  pub outcomes_ended : (written : ℕ) (place' : List ℕ) → (written ≡ outcome_bytes_put place) × (place' ≡ outcomes_put bus place)
-      → stage ≡ Ended → PutAs left place written place'
-  unfolding outcomes_left
-  outcomes_ended written place' put is = outcomes_as (ap (λ (s : Stage). outcomes_left s bus) is) written place' put
-
--- what was found to be wanted
-pub closing_found : (wanted found : Wanted) → wanted ≡ found → (session : Session) (place : List ℕ) (written : ℕ) (place' : List ℕ)
-    → PutAs (closed_in found (length place) session) place written place' → PutAs (closed_in wanted (length place) session) place written place'
-closing_found wanted found is session place written place' =
-    subst (λ (w : Wanted). PutAs (closed_in w (length place) session) place written place') (sym is)
+  outcomes_left_holds written place' put =
+      ⊎_elim (λ is. outcomes_as (ap (λ (s : Stage). outcomes_left s bus) is) written place' put)
+      (λ is. outcomes_as (ap (λ (s : Stage). outcomes_left s bus) is) written place' put)
 
 -- ---- Behind what was written
 

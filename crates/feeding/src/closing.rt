@@ -1,36 +1,34 @@
 // What is written at the end of the input.
 ghost use Rattle.std.specs.Prelude.{◌≡◌, ◌-◌, ◌≤◌, length};
 ghost use Rattle.std.proofs.lemmas.List.Edits.{sets};
-ghost use Rattle.session.specs.World.{wanted_by};
-ghost use Rattle.session.specs.Feeding.{closed_in, with_more};
+ghost use Rattle.session.specs.Feeding.{closed_in, fed_told, with_more};
 ghost use Rattle.session.specs.declared.state.Wanted.TheVariants.{Outcomes};
 
 use printing::put_outcomes;
-use session::{Fed, Session, Stage, WANTS_OUTCOMES};
+use session::{Fed, Session, Stage, Wanted};
 
 // Behind what was written for lines.
-pub fn close(wanted: u8, mut fed: Fed, out: &mut [u8]) -> Fed
+pub fn close(wanted: Wanted, fed: Fed, out: &mut [u8]) -> Fed
     requires { fed.written ≤ length out.old }
-    ensures more { result ≡
-        with_more fed (length (closed_in (wanted_by wanted) (length out.old - fed.written) fed.session)) }
+    ensures more { fed_told result ≡
+        with_more (fed_told fed) (length (closed_in wanted (length out.old - fed.written) fed.session)) }
     ensures out_left { out.new ≡
-        sets out.old fed.written (closed_in (wanted_by wanted) (length out.old - fed.written) fed.session) }
+        sets out.old fed.written (closed_in wanted (length out.old - fed.written) fed.session) }
 {
-    let session = fed.session;
-    let written = fed.written;
-    let more = put_closing(wanted, session, &mut out[written..]);
-    fed.written = written + more;
-    fed
+    let more = put_closing(wanted, fed.session, &mut out[fed.written..]);
+    Fed {
+        written: fed.written + more,
+        ..fed
+    }
 }
 
-fn put_closing(wanted: u8, session: Session, rest: &mut [u8]) -> usize
-    ensures put { result ≡ length (closed_in (wanted_by wanted) (length rest.old) session) }
-    ensures left { rest.new ≡ sets rest.old 0 (closed_in (wanted_by wanted) (length rest.old) session) }
+fn put_closing(wanted: Wanted, session: Session, rest: &mut [u8]) -> usize
+    ensures put { result ≡ length (closed_in wanted (length rest.old) session) }
+    ensures left { rest.new ≡ sets rest.old 0 (closed_in wanted (length rest.old) session) }
 {
-    if wanted == WANTS_OUTCOMES {
-        put_left(session, rest)
-    } else {
-        0
+    match wanted {
+        Wanted::Outcomes => put_left(session, rest),
+        Wanted::Answers | Wanted::Pictures => 0,
     }
 }
 
@@ -39,11 +37,8 @@ fn put_left(session: Session, rest: &mut [u8]) -> usize
     ensures put { result ≡ length (closed_in Outcomes (length rest.old) session) }
     ensures left { rest.new ≡ sets rest.old 0 (closed_in Outcomes (length rest.old) session) }
 {
-    let stage = session.stage;
-    let bus = session.bus;
-    match stage {
+    match session.stage {
         Stage::Awaiting => 0,
-        Stage::Running => put_outcomes(bus, rest),
-        Stage::Ended => put_outcomes(bus, rest),
+        Stage::Running | Stage::Ended => put_outcomes(session.bus, rest),
     }
 }

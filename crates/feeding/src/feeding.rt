@@ -2,19 +2,19 @@
 ghost use Rattle.std.specs.Prelude.{true, false, ◌≡◌, ◌≤◌, length, take};
 ghost use Rattle.std.proofs.lemmas.List.Edits.{sets};
 ghost use Rattle.bus.specs.Sense.{makes_sense};
+ghost use Rattle.bus.specs.Told.{answered};
 ghost use Rattle.judgement.specs.Refusals.{has_wrong_buffers};
 ghost use Rattle.session.specs.World.{wanted_by};
-ghost use Rattle.session.specs.Feeding.{world_of, takes, feed_refusal, refused_fed, taken_fed, held_in};
+ghost use Rattle.session.specs.Feeding.{world_of, takes, feed_refusal, taken_fed, fed_told, fed_in, held_in};
 ghost use Rattle.session.specs.Feeding.{fed_of, world_left, out_left, text_left};
 ghost use Rattle.session.specs.Feeding.{ended_text, ended_at, finished_of, finished_text, finished_out, finished_world};
 
 use crate::closing::close;
 use crate::holding::hold;
 use crate::taking::take_lines;
-use bus::Bus;
-use bus::numbers::*;
+use bus::{Bus, Refusal};
 use sense::makes_sense;
-use session::{Fed, Session};
+use session::{Fed, Session, Wanted};
 use text::NEWLINE;
 
 // Takes the lines that have ended in the filled part of the text, as many as `out` has room for, and brings the rest to the front.
@@ -27,8 +27,8 @@ pub fn feed(
     out: &mut [u8],
     memory: &mut [u8],
     ports: &mut [u8],
-) -> Fed
-    ensures fed { result ≡
+) -> Result<Fed, Refusal>
+    ensures fed { fed_in session filled result ≡
         fed_of (wanted_by wanted) (world_of session memory.old ports.old) text.old filled out.old }
     ensures text_left { text.new ≡
         text_left (wanted_by wanted) (world_of session memory.old ports.old) text.old filled out.old }
@@ -39,28 +39,12 @@ pub fn feed(
     ensures ports_left { ports.new ≡
         (world_left (wanted_by wanted) (world_of session memory.old ports.old) text.old filled out.old).ports }
 {
-    let refusal = feed_refusal(session.bus, text, filled, memory, ports);
-    if refusal == ACCEPTED {
-        take_in(wanted, session, text, filled, out, memory, ports)
-    } else {
-        refused_fed(refusal, session, filled)
-    }
-}
-
-// A refused call does nothing.
-fn refused_fed(refusal: u8, session: Session, filled: usize) -> Fed
-    ensures { result ≡ refused_fed refusal session filled }
-{
-    Fed {
-        refusal: refusal,
-        session: session,
-        held: filled,
-        written: 0,
-    }
+    check(session.bus, text, filled, memory, ports)?;
+    Ok(take_in(wanted.into(), session, text, filled, out, memory, ports))
 }
 
 fn take_in(
-    wanted: u8,
+    wanted: Wanted,
     session: Session,
     text: &mut [u8],
     filled: usize,
@@ -71,44 +55,42 @@ fn take_in(
     requires filled_in_bounds { filled ≤ length text.old }
     requires ports_value { has_wrong_buffers memory.old ports.old ≡ false }
     requires bus_value { makes_sense session.bus ≡ true }
-    ensures fed { result ≡
-        taken_fed (takes (wanted_by wanted) (length out.old)
+    ensures fed { fed_told result ≡
+        taken_fed (takes wanted (length out.old)
         (world_of session memory.old ports.old) (take filled text.old)) }
     ensures text_left { text.new ≡
-        held_in text.old (takes (wanted_by wanted) (length out.old)
+        held_in text.old (takes wanted (length out.old)
         (world_of session memory.old ports.old) (take filled text.old)).rest }
     ensures out_left { out.new ≡
-        sets out.old 0 (takes (wanted_by wanted) (length out.old)
+        sets out.old 0 (takes wanted (length out.old)
         (world_of session memory.old ports.old) (take filled text.old)).said }
     ensures memory_left { memory.new ≡
-        (takes (wanted_by wanted) (length out.old) (world_of session memory.old ports.old)
+        (takes wanted (length out.old) (world_of session memory.old ports.old)
         (take filled text.old)).state.memory }
     ensures ports_left { ports.new ≡
-        (takes (wanted_by wanted) (length out.old) (world_of session memory.old ports.old)
+        (takes wanted (length out.old) (world_of session memory.old ports.old)
         (take filled text.old)).state.ports }
 {
     let taken = take_lines(wanted, session, &text[..filled], out, memory, ports);
     let held = hold(text, taken.used, filled);
-    let next = taken.session;
     Fed {
-        refusal: ACCEPTED,
-        session: next,
-        held: held,
+        session: taken.session,
+        held,
         written: taken.written,
     }
 }
 
-fn feed_refusal(bus: Bus, text: &[u8], filled: usize, memory: &[u8], ports: &[u8]) -> u8
-    ensures { result ≡ feed_refusal bus memory.now ports.now text.now filled }
+fn check(bus: Bus, text: &[u8], filled: usize, memory: &[u8], ports: &[u8]) -> Result<(), Refusal>
+    ensures { answered result ≡ feed_refusal bus memory.now ports.now text.now filled }
 {
     if text.len() < filled {
-        WRONG_LENGTH
-    } else if !((memory.len() == 0x10000) & (ports.len() == 0x100)) {
-        WRONG_BUFFERS
-    } else if makes_sense(bus) {
-        ACCEPTED
+        Err(Refusal::WrongLength)
+    } else if (memory.len() != 0x10000) | (ports.len() != 0x100) {
+        Err(Refusal::WrongBuffers)
+    } else if !makes_sense(bus) {
+        Err(Refusal::Senseless)
     } else {
-        SENSELESS
+        Ok(())
     }
 }
 
@@ -122,8 +104,8 @@ pub fn finish(
     out: &mut [u8],
     memory: &mut [u8],
     ports: &mut [u8],
-) -> Fed
-    ensures fed { result ≡
+) -> Result<Fed, Refusal>
+    ensures fed { fed_in session held result ≡
         finished_of (wanted_by wanted) (world_of session memory.old ports.old) text.old held out.old }
     ensures text_left { text.new ≡
         finished_text (wanted_by wanted) (world_of session memory.old ports.old) text.old held out.old }
@@ -134,14 +116,11 @@ pub fn finish(
     ensures ports_left { ports.new ≡
         (finished_world (wanted_by wanted) (world_of session memory.old ports.old) text.old held out.old).ports }
 {
-    let refusal = feed_refusal(session.bus, text, held, memory, ports);
-    if refusal == ACCEPTED {
-        let filled = end_line(text, held);
-        let fed = take_in(wanted, session, text, filled, out, memory, ports);
-        close(wanted, fed, out)
-    } else {
-        refused_fed(refusal, session, held)
-    }
+    check(session.bus, text, held, memory, ports)?;
+    let wanted = Wanted::from(wanted);
+    let filled = end_line(text, held);
+    let fed = take_in(wanted, session, text, filled, out, memory, ports);
+    Ok(close(wanted, fed, out))
 }
 
 fn end_line(text: &mut [u8], held: usize) -> usize
@@ -150,13 +129,10 @@ fn end_line(text: &mut [u8], held: usize) -> usize
 {
     if (0 < held) & (held < text.len()) {
         let last = text[held - 1];
-        if last == NEWLINE {
-            held
-        } else {
+        if last != NEWLINE {
             text[held] = NEWLINE;
-            held + 1
+            return held + 1;
         }
-    } else {
-        held
     }
+    held
 }

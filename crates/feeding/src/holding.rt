@@ -1,6 +1,5 @@
 // What is held of a text until more is read.
-ghost use Rattle.std.specs.Prelude.{◌++◌, ◌≡◌, ◌+◌, ◌≤◌, length, take, drop};
-ghost use Rattle.std.proofs.Math.Seq.{paste};
+ghost use Rattle.std.specs.Prelude.{◌++◌, ◌≡◌, ◌≤◌, length, take, drop};
 ghost use Rattle.text.specs.Reading.{held_of};
 
 use reading::line_end;
@@ -18,7 +17,7 @@ pub fn hold(text: &mut [u8], from: usize, filled: usize) -> usize
         held_of (drop from (take filled text.old)) ++ drop (length (held_of (drop from (take filled text.old)))) text.old }
 {
     let count = held_count(&text[from..filled]);
-    bring_down(text, from, count);
+    text.copy_within(from..from + count, 0);
     count
 }
 
@@ -30,16 +29,5 @@ fn held_count(rest: &[u8]) -> usize
         MOST_HELD
     } else {
         size
-    }
-}
-
-fn bring_down(text: &mut [u8], from: usize, count: usize)
-    requires { from + count ≤ length text.old }
-    ensures { text.new ≡ paste text.old 0 (drop from text.old) count }
-{
-    let mut i: usize = 0;
-    while i < count {
-        text[i] = text[from + i];
-        i += 1;
     }
 }

@@ -1,16 +1,19 @@
 // A session before its first line, and the setup line.
 ghost use Rattle.std.specs.Prelude.{◌≡◌};
-ghost use Rattle.session.specs.World.{fresh, refused_setup, set_up_by, setup_answer, stage_after};
+ghost use Rattle.text.specs.Frames.{setup_in};
+ghost use Rattle.text.specs.Told.{refusal_of, column_of};
+ghost use Rattle.session.specs.World.{fresh, set_up_by, setup_answer};
+ghost use Rattle.feeding.specs.Told.{set_up_told, answer_told, session_told};
 
-use bus::numbers::*;
-use bus::{EMPTY_CHASSIS, SetupAnswer};
+use bus::numbers::ACCEPTED;
+use bus::{Bus, EMPTY_CHASSIS, Refusal};
 use events::Answer;
-use memory::Moved;
+use reading::setup_line;
 use sense::{freed, setup};
 use session::{Session, Stage};
 use stepping::{answer_with, bare_with};
 use tables::signals;
-use text::{Fault, SetupLine};
+use text::Fault;
 
 pub fn fresh() -> Session
     ensures { result ≡ fresh }
@@ -21,45 +24,62 @@ pub fn fresh() -> Session
     }
 }
 
-pub fn set_up(line: SetupLine) -> SetupAnswer
-    ensures { result ≡ set_up_by line }
-{
-    let fault = line.fault;
-    let chassis = line.chassis;
-    if fault.refusal == ACCEPTED {
-        setup(chassis)
-    } else {
-        refused_setup(fault.refusal)
+// Why a line is refused, and the column of the character that is to blame; 0 where none is.
+#[derive(Clone, Copy)]
+pub struct RefusedLine {
+    refusal: Refusal,
+    column: u8,
+}
+
+impl From<Fault> for RefusedLine {
+    ghost from_gives = { λ fault refused. (refused.refusal ≡ refusal_of fault) × (refused.column ≡ column_of fault) };
+
+    fn from(fault: Fault) -> RefusedLine {
+        RefusedLine {
+            refusal: fault.into(),
+            column: fault.column(),
+        }
     }
 }
 
-fn refused_setup(refusal: u8) -> SetupAnswer
-    ensures { result ≡ refused_setup refusal }
-{
-    SetupAnswer {
-        answer: refusal,
-        bus: freed(EMPTY_CHASSIS),
+impl From<Refusal> for RefusedLine {
+    ghost from_gives = { λ refusal refused. (refused.refusal ≡ refusal) × (refused.column ≡ 0) };
+
+    fn from(refusal: Refusal) -> RefusedLine {
+        RefusedLine { refusal, column: 0 }
     }
 }
 
-// Behind a refusal stands nothing but the column of a wrong character.
-pub fn setup_answer(fault: Fault, given: SetupAnswer) -> Answer
-    ensures { result ≡ setup_answer fault given }
+// The bus that a setup line sets up.
+pub fn set_up(line: &[u8]) -> Result<Bus, RefusedLine>
+    ensures bus { set_up_told result ≡ set_up_by (setup_in line.now) }
+    ensures answer { answer_told result ≡ setup_answer (setup_in line.now).fault (set_up_by (setup_in line.now)) }
 {
-    let bus = given.bus;
-    if given.answer == ACCEPTED {
-        answer_with(ACCEPTED, bus, signals(bus.phase), 0, Moved::NOTHING)
-    } else {
-        bare_with(given.answer, fault.column as u16)
+    Ok(setup(setup_line(line)?)?)
+}
+
+// What the setup line is answered.
+pub fn setup_answer(given: Result<Bus, RefusedLine>) -> Answer
+    ensures { result ≡ answer_told given }
+{
+    match given {
+        Ok(bus) => answer_with(ACCEPTED, bus, signals(bus.phase), 0, None),
+        Err(refused) => bare_with(refused.refusal.into(), refused.column.into()),
     }
 }
 
-pub fn stage_after(given: SetupAnswer) -> Stage
-    ensures { result ≡ stage_after given }
+// Where the setup line leads to: a refused one to an empty chassis.
+pub fn session_after(given: Result<Bus, RefusedLine>) -> Session
+    ensures { result ≡ session_told given }
 {
-    if given.answer == ACCEPTED {
-        Stage::Running
-    } else {
-        Stage::Ended
+    match given {
+        Ok(bus) => Session {
+            stage: Stage::Running,
+            bus,
+        },
+        Err(_) => Session {
+            stage: Stage::Ended,
+            bus: freed(EMPTY_CHASSIS),
+        },
     }
 }

@@ -9,12 +9,12 @@ ghost use Rattle.session.specs.declared.state.Stage.TheVariants.{Awaiting, Runni
 ghost use Rattle.session.specs.declared.state.Wanted.{Wanted};
 
 use crate::saying::{fault_answer, most_said, put_event, put_reply};
-use crate::setting::{set_up, setup_answer, stage_after};
+use crate::setting::{session_after, set_up, setup_answer};
 use bus::Bus;
-use reading::{line_end, next_line, setup_line};
-use session::{Session, Stage, TakenLines};
+use reading::{line_end, next_line};
+use session::{Session, Stage, TakenLines, Wanted};
 use stepping::sound_step;
-use text::{EVENT_DIGITS, Line};
+use text::EVENT_DIGITS;
 
 // An event line with its newline.
 const EVENT_BYTES: usize = EVENT_DIGITS + 1;
@@ -24,7 +24,7 @@ pub fn has_room(wanted: u8, out: &[u8], written: usize) -> bool
     ensures { result ≡ has_room (wanted_by wanted) (length out.now) written }
 {
     if written <= out.len() {
-        most_said(wanted) <= out.len() - written
+        most_said(Wanted::from(wanted)) <= out.len() - written
     } else {
         false
     }
@@ -32,7 +32,7 @@ pub fn has_room(wanted: u8, out: &[u8], written: usize) -> bool
 
 // As many lines as have ended and find room, one after another: each is read from the slice behind the newline before it.
 pub fn take_lines(
-    wanted: u8,
+    wanted: Wanted,
     start: Session,
     text: &[u8],
     out: &mut [u8],
@@ -42,14 +42,14 @@ pub fn take_lines(
     requires ports_value { has_wrong_buffers memory.old ports.old ≡ false }
     requires bus_value { makes_sense start.bus ≡ true }
     ensures taken { result ≡
-        lines_taken (takes (wanted_by wanted) (length out.old) (world_of start memory.old ports.old) text.now) }
+        lines_taken (takes wanted (length out.old) (world_of start memory.old ports.old) text.now) }
     ensures out_left { out.new ≡
-        sets out.old 0 (takes (wanted_by wanted) (length out.old)
+        sets out.old 0 (takes wanted (length out.old)
         (world_of start memory.old ports.old) text.now).said }
     ensures memory_left { memory.new ≡
-        (takes (wanted_by wanted) (length out.old) (world_of start memory.old ports.old) text.now).state.memory }
+        (takes wanted (length out.old) (world_of start memory.old ports.old) text.now).state.memory }
     ensures ports_left { ports.new ≡
-        (takes (wanted_by wanted) (length out.old) (world_of start memory.old ports.old) text.now).state.ports }
+        (takes wanted (length out.old) (world_of start memory.old ports.old) text.now).state.ports }
 {
     let most = most_said(wanted);
     let mut stage = start.stage;
@@ -82,7 +82,7 @@ pub fn take_lines(
 
 // The line that a text begins with, by the stage.
 fn take_line(
-    wanted: u8,
+    wanted: Wanted,
     stage: Stage,
     bus: Bus,
     rest: &[u8],
@@ -90,16 +90,16 @@ fn take_line(
     memory: &mut [u8],
     ports: &mut [u8],
 ) -> TakenLines
-    requires wanted_in_bounds { most_said (wanted_by wanted) ≤ length out.old }
+    requires wanted_in_bounds { most_said wanted ≤ length out.old }
     requires ports_value { has_wrong_buffers memory.old ports.old ≡ false }
     requires bus_value { makes_sense bus ≡ true }
-    ensures taken { result ≡ lines_taken (takes_first (wanted_by wanted) (world stage bus memory.old ports.old) rest.now) }
+    ensures taken { result ≡ lines_taken (takes_first wanted (world stage bus memory.old ports.old) rest.now) }
     ensures out_left { out.new ≡
-        sets out.old 0 (takes_first (wanted_by wanted) (world stage bus memory.old ports.old) rest.now).said }
+        sets out.old 0 (takes_first wanted (world stage bus memory.old ports.old) rest.now).said }
     ensures memory_left { memory.new ≡
-        (takes_first (wanted_by wanted) (world stage bus memory.old ports.old) rest.now).state.memory }
+        (takes_first wanted (world stage bus memory.old ports.old) rest.now).state.memory }
     ensures ports_left { ports.new ≡
-        (takes_first (wanted_by wanted) (world stage bus memory.old ports.old) rest.now).state.ports }
+        (takes_first wanted (world stage bus memory.old ports.old) rest.now).state.ports }
 {
     match stage {
         Stage::Awaiting => take_setup(wanted, bus, rest, out),
@@ -109,56 +109,53 @@ fn take_line(
 }
 
 // The setup line goes by neither memory nor ports.
-fn take_setup(wanted: u8, bus: Bus, rest: &[u8], out: &mut [u8]) -> TakenLines
-    requires { most_said (wanted_by wanted) ≤ length out.old }
-    ensures taken { (memory ports : List ℕ) → result ≡ lines_taken (takes_first (wanted_by wanted) (world Awaiting bus memory ports) rest.now) }
+fn take_setup(wanted: Wanted, bus: Bus, rest: &[u8], out: &mut [u8]) -> TakenLines
+    requires { most_said wanted ≤ length out.old }
+    ensures taken { (memory ports : List ℕ) → result ≡ lines_taken (takes_first wanted (world Awaiting bus memory ports) rest.now) }
     ensures out_left { (memory ports : List ℕ) → out.new ≡
-        sets out.old 0 (takes_first (wanted_by wanted) (world Awaiting bus memory ports) rest.now).said }
+        sets out.old 0 (takes_first wanted (world Awaiting bus memory ports) rest.now).said }
 {
     let end = line_end(rest);
     if end < rest.len() {
-        let line = setup_line(&rest[..end]);
-        let given = set_up(line);
-        let written = put_reply(wanted, setup_answer(line.fault, given), out);
-        told(stage_after(given), given.bus, end + 1, written)
+        let given = set_up(&rest[..end]);
+        let written = put_reply(wanted, setup_answer(given), out);
+        let next = session_after(given);
+        told(next.stage, next.bus, end + 1, written)
     } else {
         told(Stage::Awaiting, bus, 0, 0)
     }
 }
 
 fn take_event(
-    wanted: u8,
+    wanted: Wanted,
     bus: Bus,
     rest: &[u8],
     out: &mut [u8],
     memory: &mut [u8],
     ports: &mut [u8],
 ) -> TakenLines
-    requires wanted_in_bounds { most_said (wanted_by wanted) ≤ length out.old }
+    requires wanted_in_bounds { most_said wanted ≤ length out.old }
     requires ports_value { has_wrong_buffers memory.old ports.old ≡ false }
     requires bus_value { makes_sense bus ≡ true }
-    ensures taken { result ≡ lines_taken (takes_first (wanted_by wanted) (world Running bus memory.old ports.old) rest.now) }
+    ensures taken { result ≡ lines_taken (takes_first wanted (world Running bus memory.old ports.old) rest.now) }
     ensures out_left { out.new ≡
-        sets out.old 0 (takes_first (wanted_by wanted) (world Running bus memory.old ports.old) rest.now).said }
+        sets out.old 0 (takes_first wanted (world Running bus memory.old ports.old) rest.now).said }
     ensures memory_left { memory.new ≡
-        (takes_first (wanted_by wanted) (world Running bus memory.old ports.old) rest.now).state.memory }
+        (takes_first wanted (world Running bus memory.old ports.old) rest.now).state.memory }
     ensures ports_left { ports.new ≡
-        (takes_first (wanted_by wanted) (world Running bus memory.old ports.old) rest.now).state.ports }
+        (takes_first wanted (world Running bus memory.old ports.old) rest.now).state.ports }
 {
-    let line = next_line(rest);
-    match line {
-        Line::Frame(event) => {
+    match next_line(rest) {
+        Some(Ok(event)) => {
             let stepped = sound_step(bus, event, memory, ports);
-            let answer = stepped.answer;
-            let next = stepped.bus;
-            let written = put_event(wanted, event, answer, out);
-            told(Stage::Running, next, EVENT_BYTES, written)
+            let written = put_event(wanted, event, stepped.answer, out);
+            told(Stage::Running, stepped.bus, EVENT_BYTES, written)
         }
-        Line::Bad(bad) => {
+        Some(Err(bad)) => {
             let written = put_reply(wanted, fault_answer(bad.fault), out);
             told(Stage::Running, bus, bad.size + 1, written)
         }
-        Line::Unended => told(Stage::Running, bus, 0, 0),
+        None => told(Stage::Running, bus, 0, 0),
     }
 }
 

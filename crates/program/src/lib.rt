@@ -53,14 +53,13 @@ fn take_turns<R: Read, W: Write>(
     places: &mut Places,
 ) -> io::Result<()> {
     let mut fed = Fed {
-        refusal: 0,
         session: fresh(),
         held: 0,
         written: 0,
     };
     for _ in 0..u64::MAX {
         let filled = places.fill(wanted, input, fed)?;
-        fed = places.take_filled(wanted, fed, filled);
+        fed = places.take_filled(wanted, fed, filled)?;
         places.write_said(output, fed.written)?;
         if let Filled::Ended(_) = filled {
             break;
@@ -83,8 +82,8 @@ impl Places<'_> {
     }
 
     // Once the input has ended nothing complete is held, and what is held is the unended last line; once setup was refused, no line counts any more.
-    fn take_filled(&mut self, wanted: u8, fed: Fed, filled: Filled) -> Fed {
-        match filled {
+    fn take_filled(&mut self, wanted: u8, fed: Fed, filled: Filled) -> io::Result<Fed> {
+        let taken = match filled {
             Filled::More(size) => feed(
                 wanted,
                 fed.session,
@@ -103,7 +102,8 @@ impl Places<'_> {
                 self.memory,
                 self.ports,
             ),
-        }
+        };
+        taken.map_err(|_| ErrorKind::InvalidInput.into())
     }
 
     fn write_said<W: Write>(&self, output: &mut W, written: usize) -> io::Result<()> {

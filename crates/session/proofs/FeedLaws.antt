@@ -21,6 +21,7 @@ use Rattle.text.proofs.LinePromises.{taken_fits}
 use Rattle.text.proofs.ReadingLaws.{taken_rest, taken_used}
 use Rattle.session.specs.World.{World, answering}
 use Rattle.session.specs.Feeding.{
+  Fed,
   takes,
   lines_taken,
   feed_refusal,
@@ -34,7 +35,6 @@ use Rattle.session.specs.Feeding.{
   with_more,
 }
 use Rattle.session.specs.declared.state.Wanted.{Wanted}
-use Rattle.session.specs.declared.calls.Fed.{Fed}
 use Rattle.session.specs.declared.calls.TakenLines.{TakenLines}
 use Rattle.session.proofs.LineLaws.{TakenAs}
 use Rattle.session.proofs.LoopLaws.{line_at_most}

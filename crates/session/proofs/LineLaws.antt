@@ -23,10 +23,7 @@ use Rattle.events.specs.declared.answers.Stepped.{Stepped}
 use Rattle.events.proofs.Refused.{sound_step_is_the_step}
 use Rattle.text.specs.Digits.{is_digit}
 use Rattle.text.specs.Newlines.{has_newline, first_line, rest_of}
-use Rattle.text.specs.Frames.{event_digits, setup_in, next_line}
-use Rattle.text.specs.declared.frames.BadLine.{BadLine}
-use Rattle.text.specs.declared.frames.Line.{Line}
-use Rattle.text.specs.declared.frames.SetupLine.{SetupLine}
+use Rattle.text.specs.Frames.{BadLine, Line, SetupLine, event_digits, setup_in, next_line}
 use Rattle.text.specs.Reading.{Taken}
 use Rattle.text.proofs.NewlineLaws.{ends_within, ends_beyond, line_front}
 use Rattle.text.proofs.FrameLaws.{Framed, framed, Spoilt, spoilt, not_ended}

@@ -33,12 +33,11 @@ use Rattle.events.proofs.Refused.{refused_keeps, answers_refusal}
 use Rattle.text.specs.Digits.{is_digit, is_digits, value_of, digits_of}
 use Rattle.text.specs.Faults.{fault_of}
 use Rattle.text.specs.Newlines.{last_line, lines_after, text_lines}
-use Rattle.text.specs.Frames.{event_digits, event_in, setup_digits, longest, setup_in, digits_from, pages_in, chassis_in}
+use Rattle.text.specs.Frames.{SetupLine, event_digits, event_in, setup_digits, longest, setup_in, digits_from, pages_in, chassis_in}
 use Rattle.text.specs.AnswerLine.{answer_line, answer_length}
 use Rattle.text.specs.OutcomeLine.{outcome_lines}
 use Rattle.text.specs.Promises.{FirstWrong}
 use Rattle.text.specs.Reading.{answers_to, most_held}
-use Rattle.text.specs.declared.frames.SetupLine.{SetupLine}
 use Rattle.text.proofs.DigitLaws.{digit_kinds, value_flat}
 use Rattle.text.proofs.FaultLaws.{wrong_first, all_digits_of, by_fault}
 use Rattle.text.proofs.ReadBack.{number_back}

@@ -1,9 +1,11 @@
 -- A call that is given the text read so far: it takes the lines that have ended, as many as there is room for, and holds the rest (01, "The
 -- program and one whole run": lines, the end of the input, refused setup).
-use Rattle.std.specs.Prelude.{ℕ, ◌+◌, ◌-◌, Bool, cond, ◌&&◌, not, List, [], ◌++◌, eqb, leb, ltb, length, take, drop, set, get_or}
+use Rattle.std.specs.Prelude.{ℕ, ◌+◌, ◌-◌, Bool, cond, ◌&&◌, not, List, [], ◌++◌, eqb, leb, ltb, length, take, drop, set, get_or, Result, Ok, Err}
 use Rattle.std.proofs.lemmas.List.Edits.{sets}
 use Rattle.bus.specs.Refusal as Refusal
 use Rattle.bus.specs.Sense.{makes_sense}
+use Rattle.bus.specs.Told.{number_of}
+use Rattle.bus.specs.declared.refusal.Refusal.{Refusal as NamedRefusal}
 use Rattle.bus.specs.declared.state.Bus.{Bus}
 use Rattle.judgement.specs.Refusals.{has_wrong_buffers}
 use Rattle.text.specs.Newlines.{newline}
@@ -12,7 +14,7 @@ use Rattle.session.specs.World.{World, closing, most_said, answering}
 use Rattle.session.specs.declared.state.Stage.{Stage}
 use Rattle.session.specs.declared.state.Session.{Session}
 use Rattle.session.specs.declared.state.Wanted.{Wanted}
-use Rattle.session.specs.declared.calls.Fed.{Fed}
+use Rattle.session.specs.declared.calls.Fed.{Fed as FedFound}
 use Rattle.session.specs.declared.calls.TakenLines.{TakenLines}
 
 -- what a call with room for so many bytes takes off a text
@@ -46,6 +48,13 @@ feed_refusal bus memory ports text filled =
 
 -- ---- What a call tells, and what it leaves: `text` holds `filled` bytes, `out` is the place for what is written
 
+-- the session then, how many bytes of text are held at its front, and how many bytes were written; the refusal is 0, or says why nothing was done
+pub record Fed : Type 0 where
+  pub refusal : ℕ
+  pub session : Session
+  pub held : ℕ
+  pub written : ℕ
+
 -- a refused call does nothing
 abbrev pub refused_fed : ℕ → Session → ℕ → Fed
 refused_fed refusal session filled = record { refusal = refusal; session = session; held = filled; written = 0 }
@@ -53,6 +62,14 @@ refused_fed refusal session filled = record { refusal = refusal; session = sessi
 abbrev pub taken_fed : Taken World → Fed
 taken_fed t =
     record { refusal = Refusal.accepted; session = t.state.session; held = length (held_of t.rest); written = length t.said }
+
+-- what the result of a call tells so, that was given this session and so many bytes of text
+abbrev pub fed_told : FedFound → Fed
+fed_told fed = record { refusal = Refusal.accepted; session = fed.session; held = fed.held; written = fed.written }
+
+abbrev pub fed_in : Session → ℕ → Result FedFound NamedRefusal → Fed
+fed_in session filled (Ok fed) = fed_told fed
+fed_in session filled (Err refusal) = refused_fed (number_of refusal) session filled
 
 -- what is held of a rest stands at the front of the text
 abbrev pub held_in : List ℕ → List ℕ → List ℕ

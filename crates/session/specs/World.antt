@@ -11,13 +11,11 @@ use Rattle.events.specs.Answers.{answer_with, bare_with}
 use Rattle.events.specs.Step.{after, answer_to}
 use Rattle.events.specs.declared.answers.Answer.{Answer}
 use Rattle.text.specs.Digits.{is_digits}
-use Rattle.text.specs.Faults.{fault_of}
-use Rattle.text.specs.Frames.{event_digits, event_in, setup_in}
+use Rattle.text.specs.Faults.{Fault, fault_of}
+use Rattle.text.specs.Frames.{SetupLine, event_digits, event_in, setup_in}
 use Rattle.text.specs.AnswerLine.{answer_line, answer_length}
 use Rattle.text.specs.OutcomeLine.{outcome_lines, outcomes_length}
 use Rattle.text.specs.Reading.{Reader}
-use Rattle.text.specs.declared.frames.Fault.{Fault}
-use Rattle.text.specs.declared.frames.SetupLine.{SetupLine}
 use Rattle.pins.specs.Picture.{most_pictured, pictures_of}
 use Rattle.session.specs.declared.state.Stage.{Stage}
 use Rattle.session.specs.declared.state.Stage.TheVariants.{Awaiting, Running, Ended}

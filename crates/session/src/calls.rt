@@ -1,11 +1,9 @@
-// What is told of lines taken off a text.
+// What a call that is given text tells, and what is told of lines taken off it.
 use crate::state::Session;
 
 // The session after a call, how many bytes of text are held at its front, and how many bytes were written.
 #[derive(Clone, Copy)]
 pub struct Fed {
-    // 0, or why nothing was done.
-    pub refusal: u8,
     pub session: Session,
     pub held: usize,
     pub written: usize,

@@ -1,7 +1,10 @@
 // How far a run is, and what is wanted of it.
+ghost use Rattle.std.specs.Prelude.{◌≡◌};
+ghost use Rattle.session.specs.World.{wanted_by};
+
 use bus::Bus;
 
-#[derive(Clone, Copy)]
+#[derive(Clone, Copy, Debug, PartialEq, Eq)]
 pub enum Stage {
     // The setup line is still to come.
     Awaiting,
@@ -17,7 +20,7 @@ pub struct Session {
     pub bus: Bus,
 }
 
-// The numbers by which calls hand on what is wanted: a number that doesn't change in a program is one that its compiler sees.
+// The numbers by which a program says what is wanted.
 pub const WANTS_ANSWERS: u8 = 0;
 
 pub const WANTS_PICTURES: u8 = 1;
@@ -25,7 +28,7 @@ pub const WANTS_PICTURES: u8 = 1;
 pub const WANTS_OUTCOMES: u8 = 2;
 
 // What is written of a run.
-#[derive(Clone, Copy)]
+#[derive(Clone, Copy, Debug, PartialEq, Eq)]
 pub enum Wanted {
     // An answer line for each line.
     Answers,
@@ -33,4 +36,18 @@ pub enum Wanted {
     Pictures,
     // At the end of the input, what the arbitration that the run has left means for each card.
     Outcomes,
+}
+
+// Any number but those of answers and outcomes asks for pictures.
+impl From<u8> for Wanted {
+    ghost from_gives = { λ number wanted. wanted ≡ wanted_by number };
+
+    #[tactic(auto, unfolding(crate::specs::World::wanted_by))]
+    fn from(number: u8) -> Wanted {
+        match number {
+            WANTS_ANSWERS => Wanted::Answers,
+            WANTS_OUTCOMES => Wanted::Outcomes,
+            _ => Wanted::Pictures,
+        }
+    }
 }

@@ -1,5 +1,5 @@
 -- By the stage: a run that has not begun has left nothing.
-use Rattle.feeding.proofs.ClosingLaws.{nothing_left, outcomes_left_holds, outcomes_ended}
+use Rattle.feeding.proofs.ClosingLaws.{nothing_left, outcomes_left_holds}
 use Rattle.feeding.proofs.closing.put_left.Goals as goal
 
 pub returns-in-Awaiting : goal.returns-in-Awaiting
@@ -13,13 +13,4 @@ returns-in-Running c =
     let from = c.args in
     let hands = outcomes_left_holds from.session.stage from.session.bus from.rest.now _ _ (c.put_outcomes.ensures.put, c.put_outcomes.ensures.left)
     c.in-Running.is in
-    record { put = hands.0; left = hands.1 }
-
-pub returns-in-Ended : goal.returns-in-Ended
-returns-in-Ended c =
-    let from = c.args in
-    let hands = outcomes_ended from.session.stage from.session.bus from.rest.now _ _ (
-      c.put_outcomes-in-Ended.ensures.put,
-      c.put_outcomes-in-Ended.ensures.left,
-    ) c.in-Ended.is in
     record { put = hands.0; left = hands.1 }

@@ -3,7 +3,7 @@
 use mathlib.Core.Path.{sym}
 use lib.Seq.{length-take-le}
 use Rattle.session.specs.Feeding.{world_of}
-use Rattle.session.specs.World.{wanted_by, World}
+use Rattle.session.specs.World.{World}
 use Rattle.session.proofs.FeedLaws.{used_within, fed_taken}
 use Rattle.feeding.proofs.feeding.take_in.Goals as goal
 
@@ -15,7 +15,7 @@ pub hold-held-requires : goal.hold-held-requires
 hold-held-requires c =
     let given : World = let from = c.args in world_of from.session from.memory.now from.ports.now in
     record {
-      from_le_filled = used_within (wanted_by c.args.wanted) given c.args.text.now c.args.out.now c.args.filled c.take_lines-taken.result
+      from_le_filled = used_within c.args.wanted given c.args.text.now c.args.out.now c.args.filled c.take_lines-taken.result
           c.requires.filled_in_bounds c.take_lines-taken.ensures.taken;
       filled_in_bounds = c.requires.filled_in_bounds;
     }
@@ -24,7 +24,7 @@ pub returns : goal.returns
 returns c =
     let given : World = let from = c.args in world_of from.session from.memory.now from.ports.now in
     let from = c.args in
-    let hands = fed_taken (wanted_by from.wanted) given from.text.now from.out.now from.filled c.take_lines-taken.result c.hold-held.result _ _ _ _ (
+    let hands = fed_taken from.wanted given from.text.now from.out.now from.filled c.take_lines-taken.result c.hold-held.result _ _ _ _ (
       c.take_lines-taken.ensures.taken,
       (
         c.take_lines-taken.ensures.out_left,

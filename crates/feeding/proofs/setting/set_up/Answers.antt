@@ -1,15 +1,21 @@
--- By the refusal of the line.
-use mathlib.Core.Path.{refl, ◌∙◌}
-use borrow.Author.Tests.{eq-eqb, ne_eqb}
-use Rattle.words.proofs.TestLaws.{then_pick, else_pick}
+-- Refused for the line's sake, or for the chassis', or accepted.
+use Rattle.std.proofs.lemmas.Result.{err_from_is_err_and}
+use Rattle.feeding.proofs.SettingLaws.{line_refused, setup_refused, setup_accepted}
 use Rattle.feeding.proofs.setting.set_up.Goals as goal
 
-pub returns-then-fault-eq-ACCEPTED : goal.returns-then-fault-eq-ACCEPTED
-returns-then-fault-eq-ACCEPTED c =
-    let fault = c.args.line.fault in
-    c.setup.ensures ∙ then_pick _ (eq-eqb fault.refusal 0 c.if-fault-eq-ACCEPTED.true) refl
+pub returns-in_err-setup_line : goal.returns-in_err-setup_line
+returns-in_err-setup_line c =
+    let told = err_from_is_err_and c.from_residual.result c.from_residual.ensures.1 in
+    let hands = line_refused _ told.0 told.2.0 told.2.1 _ c.in_err-setup_line.ensures in
+    rw told.1 record { bus = hands.0; answer = hands.1 }
 
-pub returns-else-fault-eq-ACCEPTED : goal.returns-else-fault-eq-ACCEPTED
-returns-else-fault-eq-ACCEPTED c =
-    let fault = c.args.line.fault in
-    c.refused_setup.ensures ∙ else_pick _ (ne_eqb fault.refusal 0 c.if-fault-eq-ACCEPTED.false) refl
+pub returns-in_err-setup : goal.returns-in_err-setup
+returns-in_err-setup c =
+    let told = err_from_is_err_and c.from_residual-in_err-setup.result c.from_residual-in_err-setup.ensures.1 in
+    let hands = setup_refused _ _ c.in_ok-setup_line.ensures _ told.0 told.2.0 told.2.1 c.in_err-setup.ensures in
+    rw told.1 record { bus = hands.0; answer = hands.1 }
+
+pub returns : goal.returns
+returns c =
+    let hands = setup_accepted _ _ c.in_ok-setup_line.ensures _ c.in_ok-setup.ensures in
+    record { bus = hands.0; answer = hands.1 }

@@ -1,12 +1,11 @@
 -- What was done, with what the rest will do, is the whole.
 use native.Mathlib.Omega.{arith}
-use Rattle.session.specs.World.{wanted_by}
 use Rattle.session.proofs.LoopLaws.{size_within, written_most, turning_start, turning_next, turning_none, rest_less, returned_full, room_behind}
 use Rattle.feeding.proofs.taking.take_lines.Goals as goal
 
 pub loop-out-init : goal.loop-out-init
 loop-out-init c =
-    turning_start (wanted_by c.args.wanted) c.args.text.now c.args.out.now c.args.memory.now c.args.ports.now
+    turning_start c.args.wanted c.args.text.now c.args.out.now c.args.memory.now c.args.ports.now
     c.args.start.stage c.args.start.bus (record { fit = c.requires.ports_value; sense = c.requires.bus_value })
 
 pub take_line-line-requires : goal.take_line-line-requires
