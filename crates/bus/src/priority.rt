@@ -10,15 +10,15 @@ impl Bus {
     pub fn lines(self) -> u8
         ensures { result ≡ lines_of self }
     {
-        let driven = self.driven;
-        let mut lines: u8 = 0;
-        // The contenders from card n on, card n as card 0, so that no card beyond the highest contender is asked.
+        let mut lines = 0;
+        // The contenders from a card on, that card as card 0, so that no card beyond the highest contender is asked.
         let mut left = self.contenders;
-        let mut n: usize = 0;
-        while 0 < left {
-            lines = lines | counted(left, 0, driven[n]);
-            left = left / 2;
-            n += 1;
+        for level in self.driven {
+            if left == 0 {
+                return lines;
+            }
+            lines |= counted(left, 0, level);
+            left /= 2;
         }
         lines
     }
@@ -27,14 +27,9 @@ impl Bus {
     pub fn is_settled(self) -> bool
         ensures { result ≡ is_settled self }
     {
-        let driven = self.driven;
         let lines = self.lines();
-        let mut settled = true;
-        let mut n: u8 = 0;
-        while n < 16 {
-            settled = settled & stays(self.contenders, n, driven[n as usize], lines);
-            n += 1;
-        }
-        settled
+        (0..16)
+            .zip(&self.driven)
+            .all(|(n, &level)| stays(self.contenders, n, level, lines))
     }
 }

@@ -35,10 +35,7 @@ impl Bus {
     pub fn chassis(self) -> Chassis
         ensures { result ≡ chassis_of self }
     {
-        let pages = self.pages;
-        Chassis {
-            fitted: self.fitted,
-            pages: pages,
-        }
+        let Bus { fitted, pages, .. } = self;
+        Chassis { fitted, pages }
     }
 }

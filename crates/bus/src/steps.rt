@@ -38,16 +38,16 @@ impl Bus {
     fn may_request(self, cards: u16) -> bool
         ensures { result ≡ may_request self cards }
     {
-        (self.phase == FREE) & some_card(cards) & is_within(cards, self.fitted)
+        self.phase == FREE && some_card(cards) && is_within(cards, self.fitted)
     }
 
     // A contender looks at the lines, and sets what it drives.
+    #[tactic(auto, unfolding(lines::specs::Arbitration::looked))]
     pub fn look(mut self, card: u8) -> Bus
         ensures { result ≡ looked_by self card }
     {
         if self.may_look(card) {
-            let lines = self.lines();
-            self.driven[card as usize] = look_at(card, lines);
+            self.driven[usize::from(card)] = look_at(card, self.lines());
         }
         self
     }
@@ -55,7 +55,7 @@ impl Bus {
     fn may_look(self, card: u8) -> bool
         ensures { result ≡ may_look self card }
     {
-        (self.phase == ARBITRATION) & card_in(self.contenders, card)
+        self.phase == ARBITRATION && card_in(self.contenders, card)
     }
 
     // The permanent master answers HOLD, and the bus goes to the card that the settled lines name.
@@ -63,8 +63,7 @@ impl Bus {
         ensures { result ≡ acknowledged self }
     {
         if self.may_acknowledge() {
-            let winner = self.lines();
-            self.granted = winner;
+            self.granted = self.lines();
             self.phase = GRANTED;
             self.contenders = 0; // the others go idle
             self.driven = [0; 16];
@@ -75,7 +74,7 @@ impl Bus {
     fn may_acknowledge(self) -> bool
         ensures { result ≡ may_acknowledge self }
     {
-        (self.phase == ARBITRATION) & some_card(self.contenders) & self.is_settled()
+        self.phase == ARBITRATION && some_card(self.contenders) && self.is_settled()
     }
 
     pub fn begin_transfer_one(self, card: u8) -> Bus
@@ -119,7 +118,7 @@ impl Bus {
     fn may_transfer(self, from: u8, card: u8) -> bool
         ensures { result ≡ may_transfer self from card }
     {
-        (self.phase == from) & (self.granted == card)
+        self.phase == from && self.granted == card
     }
 
     // Fitted cards and pages stay; contention and grant end.

@@ -26,10 +26,10 @@ pub fn setup(chassis: Chassis) -> Result<Bus, Refusal>
 pub fn freed(chassis: Chassis) -> Bus
     ensures { result ≡ free_bus chassis }
 {
-    let pages = chassis.pages;
+    let Chassis { fitted, pages } = chassis;
     Bus {
-        fitted: chassis.fitted,
-        pages: pages,
+        fitted,
+        pages,
         phase: FREE,
         contenders: 0,
         driven: [0; 16],
@@ -40,42 +40,35 @@ pub fn freed(chassis: Chassis) -> Bus
 fn codes_known(chassis: Chassis) -> bool
     ensures { result ≡ codes_known chassis }
 {
-    let pages = chassis.pages;
-    all_at_most(2, &pages)
+    all_at_most(2, &chassis.pages)
 }
 
 pub fn makes_sense(bus: Bus) -> bool
     ensures { result ≡ makes_sense bus }
 {
-    codes_known(bus.chassis()) & standing_fits(bus)
+    codes_known(bus.chassis()) && standing_fits(bus)
 }
 
+#[tactic(auto, unfolding(bus::specs::Sense::standing_fits))]
 fn standing_fits(bus: Bus) -> bool
     ensures { result ≡ standing_fits bus }
 {
-    let driven = bus.driven;
-    (bus.phase <= LAST_PHASE)
-        & contention_fits(bus)
-        & driving_fits(bus.contenders, driven)
-        & grant_fits(bus)
+    bus.phase <= LAST_PHASE
+        && contention_fits(bus)
+        && driving_fits(bus.contenders, bus.driven)
+        && grant_fits(bus)
 }
 
 fn contention_fits(bus: Bus) -> bool
     ensures { result ≡ contention_fits bus }
 {
-    let fitted = is_within(bus.contenders, bus.fitted);
-    let some = some_card(bus.contenders);
-    if bus.phase == ARBITRATION {
-        fitted & some
-    } else {
-        fitted & !some
-    }
+    is_within(bus.contenders, bus.fitted) && some_card(bus.contenders) == (bus.phase == ARBITRATION)
 }
 
 fn grant_fits(bus: Bus) -> bool
     ensures { result ≡ grant_fits bus }
 {
-    if (GRANTED <= bus.phase) & (bus.phase <= TRANSFER_TWO) {
+    if (GRANTED..=TRANSFER_TWO).contains(&bus.phase) {
         card_in(bus.fitted, bus.granted)
     } else {
         bus.granted == NOBODY
@@ -86,11 +79,7 @@ fn grant_fits(bus: Bus) -> bool
 fn driving_fits(contenders: u16, driven: [u8; 16]) -> bool
     ensures { result ≡ driving_fits contenders driven }
 {
-    let mut fits = true;
-    let mut n: u8 = 0;
-    while n < 16 {
-        fits = fits & (driven[n as usize] <= counted(contenders, n, 15));
-        n += 1;
-    }
-    fits
+    (0..16)
+        .zip(&driven)
+        .all(|(n, &level)| level <= counted(contenders, n, 15))
 }

@@ -45,14 +45,18 @@ fn settle_by(start: Bus, cards: &[u8]) -> Result<Settled, Refusal>
         (accepted_after (leading_looks start cards.now) start cards.now) }
 {
     let mut bus = start;
-    let mut n: usize = 0;
-    while !bus.is_settled() {
-        if n == cards.len() {
-            return Err(Refusal::Unsettled);
+    for (n, &card) in cards.iter().enumerate() {
+        if bus.is_settled() {
+            return Ok(Settled { bus, looks: n });
         }
-        let card = cards[n];
         bus = bus.look(card);
-        n += 1;
     }
-    Ok(Settled { bus, looks: n })
+    if bus.is_settled() {
+        Ok(Settled {
+            bus,
+            looks: cards.len(),
+        })
+    } else {
+        Err(Refusal::Unsettled)
+    }
 }

@@ -5,19 +5,21 @@ use mathlib.Core.Bool.{Bool, true, false, cond, ◌&&◌, false≢true}
 use mathlib.Core.List.{List, [], ◌∷◌}
 use Prim.Native.Nat.{ℕ, zero, suc, ◌<◌, ◌≤◌}
 use native.Mathlib.Decide.{ℕ_discrete, dec_lt}
-use native.Mathlib.Nat.{le_refl}
+use native.Mathlib.Nat.{le_refl, zero-add}
 use native.Mathlib.Numerals.{add-one}
 use native.Mathlib.Omega.{arith}
 use lib.Dec.{eqb}
 use lib.ListN.{length, get_or, set, take}
 use lib.Seq.{take-length, get_or-set_same, get_or-set_other, set_out}
 use borrow.Author.Tests.{eqb-true, eq-eqb, ne_eqb}
-use Rattle.std.specs.List.{list_all}
+use Rattle.std.specs.List.{list_all, zip, range_with_len}
 use Rattle.std.proofs.lemmas.List.Folds.{list_all_more}
+use Rattle.std.proofs.lemmas.List.FromFn.{length-range_with_len, get_or-range_with_len}
+use Rattle.std.proofs.lemmas.Slice.Zip.{length-zip, get_or-zip}
 use Rattle.words.specs.Below.{all_below}
 use Rattle.words.specs.Among.{is_among, every_listed}
 use Rattle.words.proofs.TestLaws.{either_of}
-use Rattle.words.proofs.BelowLaws.{all_at, all_of}
+use Rattle.words.proofs.BelowLaws.{all_at, all_of, all_same}
 
 -- nobody is in the empty list, and who is in a longer one is its head or in its tail
 pub among_none : (n : ℕ) → is_among n [] ≡ true → ⊥
@@ -37,18 +39,40 @@ pub every_of : (test : ℕ → Bool) (numbers : List ℕ) → ((i : ℕ) → i <
 unfolding every_listed
 every_of test numbers each = all_of _ (length numbers) each
 
--- and asked one number after the other
-module _ (test : ℕ → Bool) (numbers : List ℕ) where
-  all_leading : (n : ℕ) → n ≤ length numbers → list_all test (take n numbers) ≡ all_below (λ i. test (get_or numbers i 0)) n
+-- and asked one after the other
+module _ {A : Type 0} (test : A → Bool) (items : List A) (other : A) where
+  all_leading : (n : ℕ) → n ≤ length items → list_all test (take n items) ≡ all_below (λ i. test (get_or items i other)) n
   unfolding all_below
   all_leading zero h = refl
   all_leading (suc n) h =
-      rw (← add-one n) (list_all_more test numbers n 0 h)
-      ∙ ap (λ (b : Bool). b && test (get_or numbers n 0)) (all_leading n (omega (arith, h)))
+      rw (← add-one n) (list_all_more test items n other h)
+      ∙ ap (λ (b : Bool). b && test (get_or items n other)) (all_leading n (omega (arith, h)))
 
-  pub every_listed_holds : list_all test numbers ≡ every_listed test numbers
-  unfolding every_listed
-  every_listed_holds = ap (list_all test) (sym (take-length numbers)) ∙ all_leading (length numbers) (le_refl (length numbers))
+  one_by_one : list_all test items ≡ all_below (λ i. test (get_or items i other)) (length items)
+  one_by_one = ap (list_all test) (sym (take-length items)) ∙ all_leading (length items) (le_refl (length items))
+
+pub every_listed_holds : (test : ℕ → Bool) (numbers : List ℕ) → list_all test numbers ≡ every_listed test numbers
+unfolding every_listed
+every_listed_holds test numbers = one_by_one test numbers 0
+
+-- asked of each number below a bound, with what the list has in its place
+pub each_place_holds : (test : ℕ → ℕ → Bool) (numbers : List ℕ) (n : ℕ) → length numbers ≡ n
+    → list_all (λ (p : ℕ × ℕ). test p.0 p.1) (zip (range_with_len 0 n) numbers) ≡ all_below (λ i. test i (get_or numbers i 0)) n
+each_place_holds test numbers n size =
+    one_by_one (λ (p : ℕ × ℕ). test p.0 p.1) (zip places numbers) (0, 0)
+    ∙ ap (all_below _) as_many
+    ∙ all_same _ _ n (λ k h. ap (λ (p : ℕ × ℕ). test p.0 p.1) (at k h))
+  where
+    places : List ℕ
+    places = range_with_len 0 n
+
+    as_many : length (zip places numbers) ≡ n
+    as_many = length-zip places numbers ∙ omega (arith, length-range_with_len 0 n, size)
+
+    at : (k : ℕ) → k < n → get_or (zip places numbers) k (0, 0) ≡ (k, get_or numbers k 0)
+    at k h =
+        get_or-zip places numbers k (0, 0) (omega (arith, length-range_with_len 0 n)) (omega (arith, size))
+        ∙ ap (λ (x : ℕ). (x, get_or numbers k 0)) (get_or-range_with_len 0 n k 0 h ∙ zero-add k)
 
 -- the entry at j once the one at i has been set
 pub get_d_set : (l : List ℕ) (i j v : ℕ) → i < length l → get_or (set l i v) j 0 ≡ cond (eqb j i) v (get_or l j 0)

@@ -1,15 +1,17 @@
--- The cards passed drive what they may.
+-- What the closure asks of each card.
 use Prim.Native.Nat.{ℕ, ◌≤◌}
-use mathlib.Core.Path.{◌≡◌, refl, ap, ◌∙◌}
+use mathlib.Core.Path.{◌≡◌, refl, ◌∙◌}
 use mathlib.Core.Bool.{Bool, true, false, cond}
 use native.Mathlib.Nat.{le_of_eq}
 use native.Mathlib.Omega.{arith}
 use borrow.Author.Rules.{rules}
-use borrow.Author.Tests.{leb-true, le-leb, eqb-true, eq-eqb}
+use borrow.Author.Tests.{tests, leb-true, le-leb, eqb-true, eq-eqb}
 use lib.Dec.{eqb, leb}
-use Rattle.words.specs.Below.{all_below}
+use Rattle.std.proofs.lemmas.Iterator.{YieldsList-from_slice, YieldsList-from_range, YieldsList-from_zip}
+use Rattle.std.proofs.lemmas.Iterator.Search.{all_from_yields_List}
 use Rattle.words.proofs.TestLaws.{tests_same}
-use Rattle.words.proofs.BelowLaws.{all_start, all_next, at_bound}
+use Rattle.words.proofs.BelowLaws.{all_same}
+use Rattle.words.proofs.ListLaws.{each_place_holds}
 use Rattle.cards.specs.Cards.{card_in}
 use Rattle.bus.proofs.SenseLaws.{levels_fit}
 use Rattle.sense.proofs.driving_fits.Goals as goal
@@ -22,16 +24,13 @@ at_most_counted false d = tests_same (leb d 0) (eqb d 0) (λ l. eq-eqb d 0 (none
     none : d ≤ 0 → d ≡ 0
     none h = omega arith
 
-pub loop-n-init : goal.loop-n-init
-loop-n-init c =
-    (omega arith, all_start _)
-
-pub loop-n-preserved : goal.loop-n-preserved
-loop-n-preserved c =
-    let counts = card_in c.args.contenders c.loop-n.n in
-    (omega arith, all_next _ _ c.loop-n.invariant.1 (ap (leb _) c.counted.ensures ∙ at_most_counted counts _))
-
 pub returns : goal.returns
 returns c =
-    at_bound (all_below _) {m = 16} c.loop-n.invariant.1 (omega arith) (omega arith)
-    ∙ levels_fit c.args.contenders c.args.driven (search rules)
+    let contenders = c.args.contenders in
+    let driven = c.args.driven in
+    all_from_yields_List (λ (p : ℕ × ℕ). leb p.1 (cond (card_in contenders p.0) 15 0)) c.all.new.self _ _ c.all.ensures.ran
+    (YieldsList-from_zip (YieldsList-from_range 0 16 16 (cc) (omega arith)) (YieldsList-from_slice driven cc))
+    (λ x b q k. search (rules, tests))
+    ∙ each_place_holds (λ n level. leb level (cond (card_in contenders n) 15 0)) driven 16 (search rules)
+    ∙ all_same _ _ 16 (λ k h. at_most_counted (card_in contenders k) _)
+    ∙ levels_fit contenders driven (search rules)

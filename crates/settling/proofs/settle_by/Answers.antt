@@ -1,49 +1,28 @@
 -- The looks taken so far are the leading part of the list, and no shorter part settles the lines.
-use Prim.Native.Nat.{ℕ, suc}
-use mathlib.Core.Path.{◌≡◌, refl, sym, ap, subst, ◌∙◌}
-use mathlib.Core.Bool.{true}
-use native.Mathlib.Nat.{not-suc-le-zero}
-use native.Mathlib.Numerals.{add-one}
+use mathlib.Core.Path.{◌≡◌, sym, subst, ◌∙◌}
+use native.Mathlib.Nat.{le_refl, le_antisymm}
 use native.Mathlib.Omega.{arith}
-use lib.ListN.{get_or}
-use Rattle.bus.specs.State.{is_settled}
-use Rattle.bus.specs.Steps.{looked_by, after_looks_of}
-use Rattle.bus.specs.declared.state.Bus.{Bus}
-use Rattle.bus.proofs.LookRuns.{look_next}
-use Rattle.bus.proofs.SettleLaws.{NotBefore, not_yet, stops, never}
+use Rattle.bus.proofs.SettleLaws.{Reached, reached_at_first, reached_next, stops, never}
 use Rattle.settling.proofs.settle_by.Goals as goal
 
-pub loop-bus-init : goal.loop-bus-init
-unfolding after_looks_of
-loop-bus-init c = (omega arith, (refl, λ k h. absurd (not-suc-le-zero h)))
+pub loop-n-init : goal.loop-n-init
+loop-n-init c = reached_at_first c.args.start c.args.cards.now
 
-pub returns-then-n-cards : goal.returns-then-n-cards
-returns-then-n-cards c =
-    let bus = c.args.start in
-    let cards = c.args.cards.now in
-    let n = c.loop-bus.n in
-    let inv = c.loop-bus.invariant.1 in
-    -- where the lines are not settled there, they are not after one look more
-    let still_not : NotBefore bus cards (suc n) = not_yet bus cards n inv.0 (sym c.is_settled.ensures ∙ c.loop-bus-test.true) inv.1 in
-    never bus cards (subst (λ (n : ℕ). NotBefore bus cards (suc n)) c.if-n-cards.true still_not)
+pub returns-then-is_settled : goal.returns-then-is_settled
+returns-then-is_settled c =
+    stops c.args.start c.args.cards.now _ c.loop-n.invariant (sym c.is_settled.ensures ∙ c.if-is_settled.true) (omega arith)
 
-pub loop-bus-preserved : goal.loop-bus-preserved
-loop-bus-preserved c =
-    let bus = c.args.start in
-    let cards = c.args.cards.now in
-    let n = c.loop-bus.n in
-    let inv = c.loop-bus.invariant.1 in
-    -- where the lines are not settled there, they are not after one look more
-    let still_not : NotBefore bus cards (suc n) = not_yet bus cards n inv.0 (sym c.is_settled.ensures ∙ c.loop-bus-test.true) inv.1 in (
-      omega arith,
-      (
-        c.look-bus.ensures ∙ ap (λ (b : Bus). looked_by b (get_or cards n 0)) c.loop-bus.invariant.1.0 ∙ look_next bus cards n (omega arith),
-        subst (NotBefore bus cards) (sym (add-one n)) still_not,
-      ),
-    )
+pub loop-n-preserved : goal.loop-n-preserved
+loop-n-preserved c =
+    reached_next c.args.start c.args.cards.now _ c.loop-n.invariant (sym c.is_settled.ensures ∙ c.if-is_settled.false) c.loop-n-test.true c.look-bus.ensures
 
-pub returns : goal.returns
-returns c =
-    let inv = c.loop-bus.invariant in
-    let still : is_settled c.loop-bus.bus ≡ true = sym c.is_settled.ensures ∙ c.loop-bus-test.false in
-    stops c.args.start c.args.cards.now c.loop-bus.n inv.1.0 still inv.1.1 inv.0
+-- after the whole list
+pub returns-then-is_settled-2 : goal.returns-then-is_settled-2
+returns-then-is_settled-2 c =
+    let reached = subst (λ n. Reached c.args.start c.args.cards.now n c.loop-n.bus) (le_antisymm c.loop-n.auto.n-end c.loop-n-test.false) c.loop-n.invariant in
+    stops c.args.start c.args.cards.now _ reached (sym c.is_settled-2.ensures ∙ c.if-is_settled-2.true) (le_refl _)
+
+pub returns-else-is_settled-2 : goal.returns-else-is_settled-2
+returns-else-is_settled-2 c =
+    let reached = subst (λ n. Reached c.args.start c.args.cards.now n c.loop-n.bus) (le_antisymm c.loop-n.auto.n-end c.loop-n-test.false) c.loop-n.invariant in
+    never c.args.start c.args.cards.now reached (sym c.is_settled-2.ensures ∙ c.if-is_settled-2.false)

@@ -1,21 +1,25 @@
--- The contenders passed would go on driving what they drive.
+-- What the closure asks of each card.
+use Prim.Native.Nat.{ℕ}
+use mathlib.Core.Path.{◌∙◌}
+use mathlib.Core.Bool.{not, ◌||◌}
 use native.Mathlib.Omega.{arith}
-use Rattle.words.specs.Below.{all_below}
-use Rattle.words.proofs.BelowLaws.{all_start, all_next, at_bound}
+use lib.Dec.{eqb}
+use Rattle.std.proofs.Common.{rules, tests}
+use Rattle.std.proofs.lemmas.Iterator.{YieldsList-from_slice, YieldsList-from_range, YieldsList-from_zip}
+use Rattle.std.proofs.lemmas.Iterator.Search.{all_from_yields_List}
+use Rattle.words.proofs.ListLaws.{each_place_holds}
+use Rattle.lines.specs.Look.{look}
 use Rattle.lines.specs.Arbitration.{settled, every_contender, looked}
+use Rattle.cards.specs.Cards.{card_in}
 use Rattle.bus.proofs.state.Bus.is_settled.Goals as goal
-
-pub loop-n-init : goal.loop-n-init
-unfolding settled every_contender looked
-loop-n-init c =
-    (omega arith, all_start _)
-
-pub loop-n-preserved : goal.loop-n-preserved
-unfolding settled every_contender looked
-loop-n-preserved c =
-    (omega arith, all_next _ _ c.loop-n.invariant.1 (rw (← c.lines-lines.ensures) c.stays-settled.ensures))
 
 pub returns : goal.returns
 unfolding settled every_contender looked
 returns c =
-    at_bound (all_below _) c.loop-n.invariant.1 (omega arith) (omega arith)
+    let bus = c.args.self in
+    all_from_yields_List
+    (λ (p : ℕ × ℕ). not (card_in bus.contenders p.0) || eqb (look 4 p.0 c.lines-lines.result) p.1) c.all.new.self _ _ c.all.ensures.ran
+    (YieldsList-from_zip (YieldsList-from_range 0 16 16 (cc) (omega arith)) (YieldsList-from_slice bus.driven cc))
+    (λ x b q k. search (rules, tests))
+    ∙ each_place_holds (λ n level. not (card_in bus.contenders n) || eqb (look 4 n c.lines-lines.result) level) bus.driven 16 (search rules)
+    ∙ rw c.lines-lines.ensures
