@@ -11,14 +11,8 @@ impl Bus {
         ensures { result ≡ lines_of self }
     {
         let mut lines = 0;
-        // The contenders from a card on, that card as card 0, so that no card beyond the highest contender is asked.
-        let mut left = self.contenders;
-        for level in self.driven {
-            if left == 0 {
-                return lines;
-            }
-            lines |= counted(left, 0, level);
-            left /= 2;
+        for (n, &level) in (0..16).zip(&self.driven) {
+            lines |= counted(self.contenders, n, level);
         }
         lines
     }

@@ -1,5 +1,5 @@
 -- Laws of lists: who is in a list, and what an entry is once some entry has been set.
-use mathlib.Core.Path.{◌≡◌, refl, sym, ap, ◌∙◌, subst}
+use mathlib.Core.Path.{◌≡◌, refl, sym, ap, ap₂, ◌∙◌, subst}
 use mathlib.Core.Logic.{◌⊎◌, inl, inr, ⊎_elim}
 use mathlib.Core.Bool.{Bool, true, false, cond, ◌&&◌, false≢true}
 use mathlib.Core.List.{List, [], ◌∷◌}
@@ -13,6 +13,7 @@ use lib.ListN.{length, get_or, set, take}
 use lib.Seq.{take-length, get_or-set_same, get_or-set_other, set_out}
 use borrow.Author.Tests.{eqb-true, eq-eqb, ne_eqb}
 use Rattle.std.specs.List.{list_all, zip, range_with_len}
+use Rattle.std.proofs.lemmas.List.{get_or_default}
 use Rattle.std.proofs.lemmas.List.Folds.{list_all_more}
 use Rattle.std.proofs.lemmas.List.FromFn.{length-range_with_len, get_or-range_with_len}
 use Rattle.std.proofs.lemmas.Slice.Zip.{length-zip, get_or-zip}
@@ -55,24 +56,24 @@ pub every_listed_holds : (test : ℕ → Bool) (numbers : List ℕ) → list_all
 unfolding every_listed
 every_listed_holds test numbers = one_by_one test numbers 0
 
--- asked of each number below a bound, with what the list has in its place
-pub each_place_holds : (test : ℕ → ℕ → Bool) (numbers : List ℕ) (n : ℕ) → length numbers ≡ n
-    → list_all (λ (p : ℕ × ℕ). test p.0 p.1) (zip (range_with_len 0 n) numbers) ≡ all_below (λ i. test i (get_or numbers i 0)) n
-each_place_holds test numbers n size =
-    one_by_one (λ (p : ℕ × ℕ). test p.0 p.1) (zip places numbers) (0, 0)
-    ∙ ap (all_below _) as_many
-    ∙ all_same _ _ n (λ k h. ap (λ (p : ℕ × ℕ). test p.0 p.1) (at k h))
-  where
-    places : List ℕ
-    places = range_with_len 0 n
+-- each number below a bound, with what the list has in its place
+module _ (numbers : List ℕ) (n : ℕ) (size : length numbers ≡ n) where
+  abbrev pub placed : List (ℕ × ℕ)
+  placed = zip (range_with_len 0 n) numbers
 
-    as_many : length (zip places numbers) ≡ n
-    as_many = length-zip places numbers ∙ omega (arith, length-range_with_len 0 n, size)
+  pub as_many_placed : length placed ≡ n
+  as_many_placed = length-zip (range_with_len 0 n) numbers ∙ omega (arith, length-range_with_len 0 n, size)
 
-    at : (k : ℕ) → k < n → get_or (zip places numbers) k (0, 0) ≡ (k, get_or numbers k 0)
-    at k h =
-        get_or-zip places numbers k (0, 0) (omega (arith, length-range_with_len 0 n)) (omega (arith, size))
-        ∙ ap (λ (x : ℕ). (x, get_or numbers k 0)) (get_or-range_with_len 0 n k 0 h ∙ zero-add k)
+  pub placed_at : (k : ℕ) (other : ℕ × ℕ) → k < n → get_or placed k other ≡ (k, get_or numbers k 0)
+  placed_at k other h =
+      get_or-zip (range_with_len 0 n) numbers k other (omega (arith, length-range_with_len 0 n)) (omega (arith, size))
+      ∙ ap₂ (λ (x y : ℕ). (x, y)) (get_or-range_with_len 0 n k other.0 h ∙ zero-add k) (get_or_default numbers k other.1 0 (omega (arith, size)))
+
+  pub each_place_holds : (test : ℕ → ℕ → Bool) → list_all (λ (p : ℕ × ℕ). test p.0 p.1) placed ≡ all_below (λ i. test i (get_or numbers i 0)) n
+  each_place_holds test =
+      one_by_one (λ (p : ℕ × ℕ). test p.0 p.1) placed (0, 0)
+      ∙ ap (all_below _) as_many_placed
+      ∙ all_same _ _ n (λ k h. ap (λ (p : ℕ × ℕ). test p.0 p.1) (placed_at k (0, 0) h))
 
 -- the entry at j once the one at i has been set
 pub get_d_set : (l : List ℕ) (i j v : ℕ) → i < length l → get_or (set l i v) j 0 ≡ cond (eqb j i) v (get_or l j 0)

@@ -31,6 +31,6 @@ returns c =
     all_from_yields_List (λ (p : ℕ × ℕ). leb p.1 (cond (card_in contenders p.0) 15 0)) c.all.new.self _ _ c.all.ensures.ran
     (YieldsList-from_zip (YieldsList-from_range 0 16 16 (cc) (omega arith)) (YieldsList-from_slice driven cc))
     (λ x b q k. search (rules, tests))
-    ∙ each_place_holds (λ n level. leb level (cond (card_in contenders n) 15 0)) driven 16 (search rules)
+    ∙ each_place_holds driven 16 (search rules) (λ n level. leb level (cond (card_in contenders n) 15 0))
     ∙ all_same _ _ 16 (λ k h. at_most_counted (card_in contenders k) _)
     ∙ levels_fit contenders driven (search rules)

@@ -1,5 +1,5 @@
 -- The looks taken so far are the leading part of the list, and no shorter part settles the lines.
-use mathlib.Core.Path.{◌≡◌, sym, subst, ◌∙◌}
+use mathlib.Core.Path.{sym, subst, ◌∙◌}
 use native.Mathlib.Nat.{le_refl, le_antisymm}
 use native.Mathlib.Omega.{arith}
 use Rattle.bus.proofs.SettleLaws.{Reached, reached_at_first, reached_next, stops, never}

@@ -21,5 +21,5 @@ returns c =
     (λ (p : ℕ × ℕ). not (card_in bus.contenders p.0) || eqb (look 4 p.0 c.lines-lines.result) p.1) c.all.new.self _ _ c.all.ensures.ran
     (YieldsList-from_zip (YieldsList-from_range 0 16 16 (cc) (omega arith)) (YieldsList-from_slice bus.driven cc))
     (λ x b q k. search (rules, tests))
-    ∙ each_place_holds (λ n level. not (card_in bus.contenders n) || eqb (look 4 n c.lines-lines.result) level) bus.driven 16 (search rules)
+    ∙ each_place_holds bus.driven 16 (search rules) (λ n level. not (card_in bus.contenders n) || eqb (look 4 n c.lines-lines.result) level)
     ∙ rw c.lines-lines.ensures
