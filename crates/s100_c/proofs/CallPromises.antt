@@ -25,8 +25,8 @@ use Rattle.events.specs.Machine.{Machine, machine}
 use Rattle.events.specs.Step.{refusal_in, after, answer_to}
 use Rattle.events.proofs.Refused.{refused_keeps, answers_refusal}
 use Rattle.events.proofs.Stays.{sense_kept_by_events}
-use Rattle.s100_c.specs.Layout.{state_size, is_state, state_bytes, bus_in, is_answer, answer_in}
-use Rattle.s100_c.specs.Calls.{Lent, lent, machine_in, places_fit, written, step_leaves, settle_leaves}
+use Rattle.s100_c.specs.Layout.{state_size, is_state, state_bytes, bus_in, answer_size, is_answer, answer_in}
+use Rattle.s100_c.specs.Calls.{Lent, lent, machine_in, places_fit, step_answers, written, step_leaves, settle_leaves}
 use Rattle.runs.specs.Run.{bus_after, after_all}
 use Rattle.s100_c.specs.Run.{Placed, state_after, bytes_after, calls_taken}
 use Rattle.s100_c.specs.Promises.{
@@ -43,19 +43,7 @@ use Rattle.s100_c.specs.Promises.{
   StepRefusedKeeps,
   SettleRefusedKeepsBytes,
 }
-use Rattle.s100_c.proofs.CallLaws.{
-  setup_fits_holds,
-  places_fit_holds,
-  all_fit,
-  buffers_misfit,
-  places_misfit,
-  placed_answers,
-  misplaced_answers,
-  fitting_leaves,
-  misfitting_leaves,
-  refused_first,
-  first_answer,
-}
+use Rattle.s100_c.proofs.CallLaws.{lengths_fit, refused_first, first_answer}
 use Rattle.s100_c.proofs.ReadBack.{state_reads_back, sensible_reads_back, bytes_whole, bytes_read_back, answer_bytes_read_back}
 
 -- ---- Wrong lengths
@@ -64,16 +52,12 @@ pub setup_misfits : SetupMisfits
 setup_misfits given state misfit = rw misfit (refl, refl)
 
 pub step_misplaced : StepMisplaced
-step_misplaced given event misplaced = (
-  sym (misplaced_answers given event misplaced),
-  sym (misfitting_leaves given event (places_misfit given misplaced)),
-)
+unfolding step_answers step_leaves
+step_misplaced given event misplaced = rw misplaced (refl, refl)
 
 pub step_misfits : StepMisfits
-step_misfits given event places misfit = (
-  sym (placed_answers given event places (first_answer (machine_in given) event misfit)),
-  sym (misfitting_leaves given event (buffers_misfit given places misfit)),
-)
+unfolding step_answers step_leaves
+step_misfits given event places misfit = rw (places, misfit) (sym (first_answer (machine_in given) event misfit), refl)
 
 pub settle_misfits : SettleMisfits
 settle_misfits state cards looks misfit = rw misfit (refl, (refl, refl))
@@ -111,20 +95,28 @@ settle_whole bus cards whole =
 
 pub setup_is_the_setup : SetupIsTheSetup
 setup_is_the_setup given state fits =
-    let back = (sensible_reads_back (setup_of given).bus (setup_makes_sense given (setup_fits_holds given state fits).0)).1 in
-    rw fits (refl, back)
+    let sixteen = (lengths_fit (length given.pages) (length state) 16 state_size fits).0 in
+    rw fits (refl, (sensible_reads_back (setup_of given).bus (setup_makes_sense given sixteen)).1)
+
+places_long : (given : Lent) → places_fit given ≡ true → length given.state ≡ state_size
+places_long given places = (lengths_fit (length given.state) (length given.answer) state_size answer_size places).0
 
 places_whole : (given : Lent) → places_fit given ≡ true → Whole (bus_in given.state)
-places_whole given places = bytes_whole given.state (places_fit_holds given places).0
+places_whole given places = bytes_whole given.state (places_long given places)
+
+step_answered : (given : Lent) (event : Event) → places_fit given ≡ true → step_answers given event ≡ (answer_to (machine_in given) event).refusal
+unfolding step_answers
+step_answered given event places = rw places refl
 
 -- with every length right
 step_leaves_holds : (given : Lent) (event : Event) → places_fit given ≡ true → has_wrong_buffers given.memory given.ports ≡ false
     → step_leaves given event ≡ written given event
-step_leaves_holds given event places fits = sym (fitting_leaves given event (all_fit given places fits) refl)
+unfolding step_leaves
+step_leaves_holds given event places fits = rw (places, fits) refl
 
 pub step_is_the_step : StepIsTheStep
 step_is_the_step given event places = (
-  sym (placed_answers given event places refl),
+  step_answered given event places,
   ⊎_elim
       (λ misfit.
       let first = refused_first (machine_in given) event misfit in
@@ -151,7 +143,7 @@ settle_is_the_settle state cards looks fits =
 step_state : (given : Lent) (event : Event) → places_fit given ≡ true → is_state (step_leaves given event).state ≡ true
 step_state given event places =
     ⊎_elim
-    (λ misfit. ap (λ (l : Lent). is_state l.state) (step_misfits given event places misfit).1 ∙ eq-eqb _ state_size (places_fit_holds given places).0)
+    (λ misfit. ap (λ (l : Lent). is_state l.state) (step_misfits given event places misfit).1 ∙ eq-eqb _ state_size (places_long given places))
     (λ fits.
     ap (λ (l : Lent). is_state l.state) (step_leaves_holds given event places fits)
     ∙ eq-eqb _ state_size (state_reads_back (after (machine_in given) event).bus (after_whole (machine_in given) event (places_whole given places))).0)
@@ -204,10 +196,10 @@ step_refused_keeps given event bytes refused = ⊎_elim in_place (λ misplaced. 
         (λ fits.
         let done = step_leaves_holds given event places fits in
         let m = machine_in given in
-        let kept = refused_keeps m event (λ ok. refused (sym (placed_answers given event places refl) ∙ answers_refusal m event ∙ ok)) in (
+        let kept = refused_keeps m event (λ ok. refused (step_answered given event places ∙ answers_refusal m event ∙ ok)) in (
           ap (λ (l : Lent). l.state) done
               ∙ ap (λ (m : Machine). state_bytes m.bus) kept
-              ∙ (bytes_read_back given.state (places_fit_holds given places).0 bytes).1,
+              ∙ (bytes_read_back given.state (places_long given places) bytes).1,
           (
             ap (λ (l : Lent). l.memory) done ∙ ap (λ (m : Machine). m.memory) kept,
             ap (λ (l : Lent). l.ports) done ∙ ap (λ (m : Machine). m.ports) kept,

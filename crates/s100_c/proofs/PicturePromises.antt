@@ -1,16 +1,14 @@
 -- The two calls on pictures do what the model does, or nothing.
-use mathlib.Core.Path.{◌≡◌, refl}
-use mathlib.Core.Bool.{Bool, true, false}
-use lib.Dec.{eqb}
+use mathlib.Core.Path.{refl}
 use lib.ListN.{length}
-use borrow.Author.Tests.{eq-eqb, ne_eqb, eqb-true}
-use Rattle.words.proofs.TestLaws.{both_of}
+use borrow.Author.Tests.{eq-eqb, ne_eqb}
 use Rattle.pins.specs.Moments.{moments_of}
 use Rattle.pins.specs.Picture.{most_pictured}
 use Rattle.pins.proofs.ReadBack.{bad_picture_refused}
 use Rattle.s100_c.specs.Layout.{answer_size, answer_bytes}
-use Rattle.s100_c.specs.Pictures.{picture_fits, seen_size}
+use Rattle.s100_c.specs.Pictures.{seen_size}
 use Rattle.s100_c.specs.Promises.{PictureIsThePicture, PictureMisfits, PictureReadIsThePicture, PictureReadRefused}
+use Rattle.s100_c.proofs.CallLaws.{lengths_misfit}
 use Rattle.s100_c.proofs.ReadBack.{answer_bytes_read_back}
 
 pub picture_is_the_picture : PictureIsThePicture
@@ -20,13 +18,7 @@ picture_is_the_picture event a place long =
     rw (eq-eqb (length (answer_bytes a)) answer_size back.0, eq-eqb (length place) most_pictured long, back.1) (refl, refl)
 
 pub picture_misfits : PictureMisfits
-picture_misfits kind address answer place wrong = rw (misfit (picture_fits answer place) refl) (refl, refl)
-  where
-    misfit : (b : Bool) → picture_fits answer place ≡ b → picture_fits answer place ≡ false
-    misfit true fits =
-        let both = both_of (eqb (length answer) answer_size) (eqb (length place) most_pictured) fits in
-        absurd (wrong (eqb-true (length answer) answer_size both.0, eqb-true (length place) most_pictured both.1))
-    misfit false e = e
+picture_misfits kind address answer place wrong = rw (lengths_misfit (length answer) (length place) answer_size most_pictured wrong) (refl, refl)
 
 pub picture_read_is_the_picture : PictureReadIsThePicture
 picture_read_is_the_picture line place phase signals lines long is = rw (eq-eqb (length place) seen_size long, is) (refl, refl)

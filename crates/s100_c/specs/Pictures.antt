@@ -5,8 +5,7 @@ use Rattle.words.specs.Parts.{Part, widths_of, total, laid_out}
 use Rattle.bus.specs.Refusal.{wrong_length}
 use Rattle.judgement.specs.Table.{event_of}
 use Rattle.pins.specs.Picture.{most_pictured, pictures_of}
-use Rattle.pins.specs.ReadAgain.{picture_in}
-use Rattle.pins.specs.declared.moments.Seen.{Seen}
+use Rattle.pins.specs.ReadAgain.{Seen, picture_in}
 use Rattle.s100_c.specs.Layout.{in_one, is_answer, answer_in}
 
 -- ---- Written

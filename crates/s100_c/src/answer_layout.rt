@@ -1,8 +1,7 @@
-// Where each field of an answer stands in a lent buffer. A caller has asked for the length before.
-ghost use Rattle.std.specs.Prelude.{◌≡◌, length};
-ghost use Rattle.s100_c.specs.Layout.{answer_size, answer_bytes, answer_in};
+// Where each field of an answer stands in its bytes.
+ghost use Rattle.std.specs.Prelude.{◌≡◌};
+ghost use Rattle.s100_c.specs.Layout.{answer_bytes, answer_in};
 
-use crate::layout::{put_word, word_at};
 use events::Answer;
 
 const REFUSAL_AT: usize = 0;
@@ -23,8 +22,7 @@ const DATUM_AT: usize = CYCLES_AT + 1;
 
 pub const ANSWER_SIZE: usize = DATUM_AT + 2;
 
-pub fn put_answer(answer: Answer, bytes: &mut [u8])
-    requires { length bytes.old ≡ answer_size }
+pub fn put_answer(answer: Answer, bytes: &mut [u8; ANSWER_SIZE])
     ensures { bytes.new ≡ answer_bytes answer }
 {
     bytes[REFUSAL_AT] = answer.refusal;
@@ -34,11 +32,10 @@ pub fn put_answer(answer: Answer, bytes: &mut [u8])
     bytes[SIGNALS_AT] = answer.signals;
     bytes[STATUS_AT] = answer.status;
     bytes[CYCLES_AT] = answer.cycles;
-    put_word(bytes, DATUM_AT, answer.datum);
+    bytes[DATUM_AT..].copy_from_slice(&answer.datum.to_be_bytes());
 }
 
-pub fn answer_in(bytes: &[u8]) -> Answer
-    requires { length bytes.now ≡ answer_size }
+pub fn answer_in(bytes: &[u8; ANSWER_SIZE]) -> Answer
     ensures { result ≡ answer_in bytes.now }
 {
     Answer {
@@ -49,6 +46,6 @@ pub fn answer_in(bytes: &[u8]) -> Answer
         signals: bytes[SIGNALS_AT],
         status: bytes[STATUS_AT],
         cycles: bytes[CYCLES_AT],
-        datum: word_at(bytes, DATUM_AT),
+        datum: u16::from_be_bytes([bytes[DATUM_AT], bytes[DATUM_AT + 1]]),
     }
 }

@@ -1,102 +1,59 @@
-// Where each field of a state stands in a lent buffer. A caller has asked for the length before.
-ghost use Rattle.std.specs.Prelude.{◌≡◌, ◌+◌, ◌*◌, ◌≤◌, length};
-ghost use Rattle.std.proofs.lemmas.List.Edits.{sets};
-ghost use Rattle.s100_c.specs.Layout.{
-  two_bytes,
-  word_at,
-  sixteen_at,
-  state_size,
-  state_bytes,
-  bus_in,
-};
+// Where each field of a state stands in its bytes, and the bus in them.
+ghost use Rattle.std.specs.Prelude.{◌≡◌, ◌+◌, ◌≤◌, MatchOption, true, false};
+ghost use Rattle.s100_c.specs.Layout.{sixteen_at, state_size, is_state, state_bytes, bus_in};
 
 use bus::Bus;
 
-pub const FITTED_AT: usize = 0;
+const FITTED_AT: usize = 0;
 
-pub const PAGES_AT: usize = FITTED_AT + 2;
+const PAGES_AT: usize = FITTED_AT + 2;
 
-pub const PHASE_AT: usize = PAGES_AT + 16;
+const PHASE_AT: usize = PAGES_AT + 16;
 
-pub const CONTENDERS_AT: usize = PHASE_AT + 1;
+const CONTENDERS_AT: usize = PHASE_AT + 1;
 
-pub const DRIVEN_AT: usize = CONTENDERS_AT + 2;
+const DRIVEN_AT: usize = CONTENDERS_AT + 2;
 
-pub const GRANTED_AT: usize = DRIVEN_AT + 16;
+const GRANTED_AT: usize = DRIVEN_AT + 16;
 
 pub const STATE_SIZE: usize = GRANTED_AT + 1;
 
-fn joined(high: u8, low: u8) -> u16
-    ensures { result ≡ high * 0x100 + low }
+// The bus in a buffer that is as long as a state.
+pub fn lent_bus(state: &[u8]) -> Option<Bus>
+    ensures { MatchOption result (is_state state.now ≡ false) (λ bus. (is_state state.now ≡ true) × (bus ≡ bus_in state.now)) }
 {
-    high as u16 * 0x100 + low as u16
+    Some(bus_in(state.as_array()?))
 }
 
-// The number in two bytes, the high one first.
-pub fn word_at(bytes: &[u8], at: usize) -> u16
-    requires { at + 2 ≤ length bytes.now }
-    ensures { result ≡ word_at at bytes.now }
-{
-    joined(bytes[at], bytes[at + 1])
-}
-
-// Sixteen bytes from a place on.
-pub fn sixteen_at(bytes: &[u8], at: usize) -> [u8; 16]
-    requires { at + 16 ≤ length bytes.now }
-    ensures { result ≡ sixteen_at at bytes.now }
-{
-    let mut entries = [0u8; 16];
-    let mut i: usize = 0;
-    while i < 16 {
-        entries[i] = bytes[at + i];
-        i += 1;
-    }
-    entries
-}
-
-pub fn bus_in(state: &[u8]) -> Bus
-    requires { length state.now ≡ state_size }
+pub fn bus_in(state: &[u8; STATE_SIZE]) -> Bus
     ensures { result ≡ bus_in state.now }
 {
     Bus {
-        fitted: word_at(state, FITTED_AT),
+        fitted: u16::from_be_bytes([state[FITTED_AT], state[FITTED_AT + 1]]),
         pages: sixteen_at(state, PAGES_AT),
         phase: state[PHASE_AT],
-        contenders: word_at(state, CONTENDERS_AT),
+        contenders: u16::from_be_bytes([state[CONTENDERS_AT], state[CONTENDERS_AT + 1]]),
         driven: sixteen_at(state, DRIVEN_AT),
         granted: state[GRANTED_AT],
     }
 }
 
-pub fn put_word(bytes: &mut [u8], at: usize, n: u16)
-    requires { at + 2 ≤ length bytes.old }
-    ensures { bytes.new ≡ sets bytes.old at (two_bytes n) }
+fn sixteen_at(state: &[u8; STATE_SIZE], at: usize) -> [u8; 16]
+    requires { at + 16 ≤ state_size }
+    ensures { result ≡ sixteen_at at state.now }
 {
-    bytes[at] = (n / 0x100) as u8;
-    bytes[at + 1] = (n % 0x100) as u8;
+    let mut entries = [0; 16];
+    entries.copy_from_slice(&state[at..at + 16]);
+    entries
 }
 
-fn put_sixteen(bytes: &mut [u8], at: usize, entries: [u8; 16])
-    requires { at + 16 ≤ length bytes.old }
-    ensures { bytes.new ≡ sets bytes.old at entries }
-{
-    let mut i: usize = 0;
-    while i < 16 {
-        bytes[at + i] = entries[i];
-        i += 1;
-    }
-}
-
-pub fn put_bus(bus: Bus, state: &mut [u8])
-    requires { length state.old ≡ state_size }
+pub fn put_bus(bus: Bus, state: &mut [u8; STATE_SIZE])
     ensures { state.new ≡ state_bytes bus }
 {
-    let pages = bus.pages;
-    let driven = bus.driven;
-    put_word(state, FITTED_AT, bus.fitted);
-    put_sixteen(state, PAGES_AT, pages);
+    state[FITTED_AT..PAGES_AT].copy_from_slice(&bus.fitted.to_be_bytes());
+    state[PAGES_AT..PHASE_AT].copy_from_slice(&bus.pages);
     state[PHASE_AT] = bus.phase;
-    put_word(state, CONTENDERS_AT, bus.contenders);
-    put_sixteen(state, DRIVEN_AT, driven);
+    state[CONTENDERS_AT..DRIVEN_AT].copy_from_slice(&bus.contenders.to_be_bytes());
+    state[DRIVEN_AT..GRANTED_AT].copy_from_slice(&bus.driven);
     state[GRANTED_AT] = bus.granted;
 }

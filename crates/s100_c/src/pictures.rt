@@ -2,40 +2,35 @@
 ghost use Rattle.std.specs.Prelude.{◌≡◌};
 ghost use Rattle.s100_c.specs.Pictures.{picture_answers, picture_leaves, read_answers, read_leaves};
 
-use crate::answer_layout::{ANSWER_SIZE, answer_in};
-use bus::numbers::*;
+use crate::answer_layout::answer_in;
+use bus::Refusal;
+use bus::numbers::ACCEPTED;
 use judgement::Event;
 use picturing::put_pictures;
 use pins::sizes::MOST_PICTURED;
 use reading::picture_line;
 
-// Where each part of what is seen stands.
-const SEEN_PHASE_AT: usize = 0;
-
-const SEEN_SIGNALS_AT: usize = SEEN_PHASE_AT + 1;
-
-const SEEN_LINES_AT: usize = SEEN_SIGNALS_AT + 1;
-
-const SEEN_COLUMN_AT: usize = SEEN_LINES_AT + 1;
-
-const SEEN_SIZE: usize = SEEN_COLUMN_AT + 1;
+// Where no phase has the signals.
+const NO_PHASE: u8 = 0xFF;
 
 #[unsafe(no_mangle)]
 pub extern "C" fn s100_picture(kind: u8, address: u32, answer: &[u8], lines: &mut [u8]) -> u8
     ensures answers { result ≡ picture_answers kind address answer.now lines.old }
     ensures leaves { lines.new ≡ picture_leaves kind address answer.now lines.old }
 {
+    let Some(answer) = answer.as_array() else {
+        return u8::from(Refusal::WrongLength);
+    };
+    let Some(lines) = lines.as_mut_array::<MOST_PICTURED>() else {
+        return u8::from(Refusal::WrongLength);
+    };
     let event = Event {
-        kind: kind,
+        kind,
         speaker: 0,
-        address: address,
+        address,
         datum: 0,
     };
-    if (answer.len() == ANSWER_SIZE) & (lines.len() == MOST_PICTURED) {
-        put_pictures(event, answer_in(answer), lines) as u8
-    } else {
-        WRONG_LENGTH
-    }
+    put_pictures(event, answer_in(answer), lines) as u8
 }
 
 #[unsafe(no_mangle)]
@@ -43,14 +38,17 @@ pub extern "C" fn s100_read_picture(line: &[u8], seen: &mut [u8]) -> u8
     ensures answers { result ≡ read_answers line.now seen.old }
     ensures leaves { seen.new ≡ read_leaves line.now seen.old }
 {
-    if seen.len() == SEEN_SIZE {
-        let read = picture_line(line);
-        seen[SEEN_PHASE_AT] = read.phase;
-        seen[SEEN_SIGNALS_AT] = read.signals;
-        seen[SEEN_LINES_AT] = read.lines;
-        seen[SEEN_COLUMN_AT] = read.column;
-        read.refusal
-    } else {
-        WRONG_LENGTH
+    let Some(seen) = seen.as_mut_array() else {
+        return u8::from(Refusal::WrongLength);
+    };
+    match picture_line(line) {
+        Ok(read) => {
+            *seen = [read.phase.unwrap_or(NO_PHASE), read.signals, read.lines, 0];
+            ACCEPTED
+        }
+        Err(fault) => {
+            *seen = [0, 0, 0, fault.column()];
+            u8::from(Refusal::from(fault))
+        }
     }
 }

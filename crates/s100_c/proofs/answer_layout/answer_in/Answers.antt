@@ -1,7 +1,7 @@
 -- Eight fields.
-use mathlib.Core.Path.{refl}
+use mathlib.Core.Path.{refl, ◌∙◌}
 use Rattle.s100_c.specs.Layout.{answer_in}
-use Rattle.s100_c.proofs.LayoutLaws.{answer_at, byte_there}
+use Rattle.s100_c.proofs.LayoutLaws.{answer_at, byte_there, word_there}
 use Rattle.s100_c.proofs.answer_layout.answer_in.Goals as goal
 
 pub returns : goal.returns
@@ -16,5 +16,5 @@ returns c =
       byte_there (answer_at 4) bytes,
       byte_there (answer_at 5) bytes,
       byte_there (answer_at 6) bytes,
-      c.word_at.ensures,
+      c.from_be_bytes.ensures ∙ word_there (answer_at 7) bytes,
     ) refl

@@ -1,7 +1,0 @@
--- The field of the decoded bus stands there.
-use Rattle.s100_c.specs.Layout.{bus_in}
-use Rattle.s100_c.proofs.fields.s100_phase.Goals as goal
-
-pub returns : goal.returns
-unfolding bus_in
-returns c = c.byte_field.ensures
