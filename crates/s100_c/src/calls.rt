@@ -75,20 +75,19 @@ pub extern "C" fn s100_step(
     let Some(answer) = answer.as_mut_array() else {
         return u8::from(Refusal::WrongLength);
     };
-    if (memory.len() == 0x10000) & (ports.len() == 0x100) {
-        let event = Event {
-            kind,
-            speaker,
-            address,
-            datum,
-        };
-        let stepped = step(bus_in(state), event, memory, ports);
-        put_bus(stepped.bus, state);
-        put_answer(stepped.answer, answer);
-        stepped.answer.refusal
-    } else {
-        u8::from(Refusal::WrongBuffers)
+    if memory.len() != 0x10000 || ports.len() != 0x100 {
+        return u8::from(Refusal::WrongBuffers);
     }
+    let event = Event {
+        kind,
+        speaker,
+        address,
+        datum,
+    };
+    let stepped = step(bus_in(state), event, memory, ports);
+    put_bus(stepped.bus, state);
+    put_answer(stepped.answer, answer);
+    stepped.answer.refusal
 }
 
 #[unsafe(no_mangle)]
