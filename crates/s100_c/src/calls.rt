@@ -2,13 +2,10 @@
 ghost use Rattle.std.specs.Prelude.{◌≡◌};
 ghost use Rattle.bus.specs.State.{chassis};
 ghost use Rattle.judgement.specs.Table.{event_of};
-ghost use Rattle.events.specs.Step.{answer_to};
 ghost use Rattle.s100_c.specs.Calls.{
   setup_answers,
   setup_leaves,
   lent,
-  machine_in,
-  written,
   step_answers,
   step_leaves,
   settle_answers,
