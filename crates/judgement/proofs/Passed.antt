@@ -2,7 +2,7 @@
 use Prim.Native.Nat.{ℕ, ◌/◌, ◌<◌}
 use mathlib.Core.Path.{◌≡◌, refl, sym}
 use mathlib.Core.Logic.{⊎_elim}
-use mathlib.Core.Bool.{Bool, true, false, ◌||◌, and-eq-true_iff}
+use mathlib.Core.Bool.{false, ◌||◌, and-eq-true_iff, or-false}
 use mathlib.Core.List.{List}
 use native.Mathlib.Omega.{arith}
 use lib.Dec.{eqb, ltb}
@@ -105,15 +105,11 @@ lengths_asked memory ports = (
 
 -- ---- Where nothing answers
 
-or_nothing : (b : Bool) → (b || false) ≡ b
-or_nothing true = refl
-or_nothing false = refl
-
 pub memory_absent : MemoryAbsent
 memory_absent pages event low high =
     let no : (k : ℕ) → 0x0A < k → eqb event.kind k ≡ false = λ k above. ne_eqb event.kind k (λ e. omega (arith, high, above, e)) in
     rw (le-leb 0x06 event.kind low, le-leb event.kind 0x0A high, no 0x0B (omega arith), no 0x0C (omega arith))
-    (or_nothing (ltb 0xFFFF event.address || eqb (get_or pages (event.address / 0x1000) 0) 0))
+    (or-false (ltb 0xFFFF event.address || eqb (get_or pages (event.address / 0x1000) 0) 0))
 
 pub port_absent : PortAbsent
 port_absent pages event = ⊎_elim (λ e. rw e refl) (λ e. rw e refl)

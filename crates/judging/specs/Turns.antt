@@ -24,9 +24,9 @@ ruled_of kind phase = cond ((row_of kind).allows phase) (Takes (row_of kind).ste
 -- ---- From 07 on
 
 -- a verdict, unless a test of the code's refuses
-abbrev pub unless_refused : Verdict → Result Unit Declared.Refusal → Verdict
-unless_refused verdict (Ok passed) = verdict
-unless_refused verdict (Err refusal) = Refused (number_of refusal)
+abbrev pub verdict_after : Verdict → Result Unit Declared.Refusal → Verdict
+verdict_after verdict (Ok passed) = verdict
+verdict_after verdict (Err refusal) = Refused (number_of refusal)
 
 -- 07, unless the speaker has its turn
 abbrev pub in_turn : Bool → Verdict → Verdict

@@ -1,7 +1,7 @@
 // The reasons to refuse an event that go by more than its kind and the phase.
 ghost use Rattle.std.specs.Prelude.{◌≡◌};
 ghost use Rattle.phases.specs.Kinds.{number_of_kind};
-ghost use Rattle.judgement.specs.Refusals.{has_stray_field, is_malformed, names_nobody, names_unfitted, page_at, is_odd_word, is_absent};
+ghost use Rattle.judgement.specs.Refusals.{has_stray_field, is_too_wide, is_malformed, names_nobody, names_unfitted, page_at, is_odd_word, is_absent};
 
 use crate::columns::{lists_address, lists_speaker, most_datum};
 use cards::{card_in, is_within, some_card};
@@ -22,9 +22,7 @@ impl KnownEvent {
     pub fn is_malformed(self) -> bool
         ensures { result ≡ is_malformed self.event }
     {
-        PERMANENT_MASTER < self.event.speaker
-            || self.has_stray_field()
-            || most_datum(self.kind) < self.event.datum
+        PERMANENT_MASTER < self.event.speaker || self.has_stray_field() || self.is_too_wide()
     }
 
     fn has_stray_field(self) -> bool
@@ -32,6 +30,12 @@ impl KnownEvent {
     {
         !lists_speaker(self.kind) && self.event.speaker != 0
             || !lists_address(self.kind) && self.event.address != 0
+    }
+
+    fn is_too_wide(self) -> bool
+        ensures { result ≡ is_too_wide self.event }
+    {
+        most_datum(self.kind) < self.event.datum
     }
 
     // 04

@@ -1,7 +1,6 @@
 // What kind and phase say together.
 ghost use Rattle.std.specs.Prelude.{◌≡◌};
 ghost use Rattle.phases.specs.Kinds.{number_of_kind};
-ghost use Rattle.phases.specs.Phase.{has_cycles};
 ghost use Rattle.judgement.specs.Told.{verdict_in};
 ghost use Rattle.judging.specs.Turns.{ruled_of};
 
@@ -23,14 +22,16 @@ pub fn ruled(kind: Kind, phase: u8) -> Result<Step, Refusal>
         (Kind::BeginTransferTwo, OWNED) => Ok(Step::BeginTransferTwo),
         (Kind::GiveBack, TRANSFER_TWO) => Ok(Step::GiveBack),
         (Kind::Reset, _) => Ok(Step::Reset),
-        _ if kind.is_cycle() && has_cycles(phase) => Ok(Step::Cycle),
+        (
+            Kind::ByteRead
+            | Kind::OpcodeFetch
+            | Kind::ByteWrite
+            | Kind::WordRead
+            | Kind::WordWrite
+            | Kind::Input
+            | Kind::Output,
+            FREE | ARBITRATION | OWNED,
+        ) => Ok(Step::Cycle),
         _ => Err(Refusal::WrongPhase),
     }
-}
-
-// Some master has cycles in these phases.
-fn has_cycles(phase: u8) -> bool
-    ensures { result ≡ has_cycles phase }
-{
-    matches!(phase, FREE | ARBITRATION | OWNED)
 }

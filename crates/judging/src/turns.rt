@@ -1,9 +1,9 @@
 // The judgement: the refusal of an event on a sensible bus, or the step that it takes.
-ghost use Rattle.std.specs.Prelude.{◌≡◌, eqb};
+ghost use Rattle.std.specs.Prelude.{◌≡◌, Ok, Err, cond, eqb};
 ghost use Rattle.judgement.specs.Table.{master_of};
-ghost use Rattle.judgement.specs.Judge.{Verdict, Takes, sound_verdict};
+ghost use Rattle.judgement.specs.Judge.{Takes, sound_verdict};
 ghost use Rattle.judgement.specs.Told.{verdict_in};
-ghost use Rattle.judging.specs.Turns.{turn_of, in_turn, on_settled, at_address, asked_of, unless_refused};
+ghost use Rattle.judging.specs.Turns.{turn_of, in_turn, at_address, asked_of, verdict_after};
 
 use crate::reasons::KnownEvent;
 use crate::rules::ruled;
@@ -22,15 +22,9 @@ pub fn judge(bus: Bus, event: Event) -> Result<Step, Refusal>
         return Err(Refusal::Malformed);
     };
     let known = KnownEvent { kind, event };
-    if known.is_malformed() {
-        return Err(Refusal::Malformed);
-    }
-    if known.names_nobody() {
-        return Err(Refusal::NobodyNamed);
-    }
-    if known.names_unfitted(bus.fitted) {
-        return Err(Refusal::NotFitted);
-    }
+    refuse_if(known.is_malformed(), Refusal::Malformed)?;
+    refuse_if(known.names_nobody(), Refusal::NobodyNamed)?;
+    refuse_if(known.names_unfitted(bus.fitted), Refusal::NotFitted)?;
     turn(bus, known)
 }
 
@@ -45,54 +39,34 @@ fn turn(bus: Bus, known: KnownEvent) -> Result<Step, Refusal>
 
 // From 07 on: whatever else the step asks for.
 fn asked(step: Step, bus: Bus, known: KnownEvent) -> Result<(), Refusal>
-    ensures { unless_refused (Takes step) result ≡ asked_of step bus known.event }
+    ensures { verdict_after (Takes step) result ≡ asked_of step bus known.event }
 {
     let speaker = known.event.speaker;
     match step {
         Step::Request | Step::Reset => Ok(()),
-        Step::Look => in_turn(card_in(bus.contenders, speaker)),
-        Step::Acknowledge => on_settled(bus.is_settled()),
-        Step::BeginTransferOne | Step::TakeBus | Step::BeginTransferTwo | Step::GiveBack => in_turn(
-            speaker == bus.granted,
-        ),
+        Step::Look => refuse_if(!card_in(bus.contenders, speaker), Refusal::NotItsTurn),
+        Step::Acknowledge => refuse_if(!bus.is_settled(), Refusal::Unsettled),
+        Step::BeginTransferOne | Step::TakeBus | Step::BeginTransferTwo | Step::GiveBack => {
+            refuse_if(speaker != bus.granted, Refusal::NotItsTurn)
+        }
         Step::Cycle => cycle(bus, known),
-    }
-}
-
-// 07, where the speaker has no turn.
-fn in_turn(its: bool) -> Result<(), Refusal>
-    ensures { (verdict : Verdict) → unless_refused verdict result ≡ in_turn its verdict }
-{
-    if its {
-        Ok(())
-    } else {
-        Err(Refusal::NotItsTurn)
-    }
-}
-
-// 08, where the lines aren't settled.
-fn on_settled(settled: bool) -> Result<(), Refusal>
-    ensures { unless_refused (Takes Step.Acknowledge) result ≡ on_settled settled }
-{
-    if settled {
-        Ok(())
-    } else {
-        Err(Refusal::Unsettled)
     }
 }
 
 // 07, and what goes by the address, of a cycle.
 fn cycle(bus: Bus, known: KnownEvent) -> Result<(), Refusal>
-    ensures { unless_refused (Takes Step.Cycle) result ≡ in_turn (eqb known.event.speaker (master_of bus)) (at_address bus known.event) }
+    ensures { verdict_after (Takes Step.Cycle) result ≡ in_turn (eqb known.event.speaker (master_of bus)) (at_address bus known.event) }
 {
-    in_turn(known.event.speaker == master_of(bus))?;
-    if known.is_odd_word() {
-        return Err(Refusal::OddWord);
-    }
-    if known.is_absent(bus.pages) {
-        return Err(Refusal::Absent);
-    }
-    Ok(())
+    refuse_if(known.event.speaker != master_of(bus), Refusal::NotItsTurn)?;
+    refuse_if(known.is_odd_word(), Refusal::OddWord)?;
+    refuse_if(known.is_absent(bus.pages), Refusal::Absent)
+}
+
+// This refusal, where it applies.
+fn refuse_if(applies: bool, refusal: Refusal) -> Result<(), Refusal>
+    ensures { result ≡ cond applies (Err refusal) (Ok tt) }
+{
+    if applies { Err(refusal) } else { Ok(()) }
 }
 
 fn master_of(bus: Bus) -> u8

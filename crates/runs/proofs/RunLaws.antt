@@ -1,7 +1,7 @@
 -- Runs one after another, and what every run keeps.
 use Prim.Native.Nat.{ℕ}
 use mathlib.Core.Path.{◌≡◌, refl, sym, ap, ◌∙◌}
-use mathlib.Core.Bool.{Bool, true, false, cond, ◌||◌, false≢true}
+use mathlib.Core.Bool.{Bool, true, false, cond, ◌||◌, false≢true, or_assoc}
 use mathlib.Core.List.{List, [], ◌∷◌, ◌++◌}
 use lib.Dec.{eqb}
 use Rattle.words.proofs.TestLaws.{neither_of}
@@ -60,11 +60,7 @@ goes_on bus c calls on =
 pub has_append : (kind : ℕ) (events more : List Event) → has_kind kind (events ++ more) ≡ (has_kind kind events || has_kind kind more)
 unfolding has_kind
 has_append kind [] more = refl
-has_append kind (event ∷ events) more = ap (◌||◌ (eqb event.kind kind)) (has_append kind events more) ∙ or_assoc (eqb event.kind kind) _ _
-  where
-    or_assoc : (a b c : Bool) → (a || (b || c)) ≡ (a || b || c)
-    or_assoc true b c = refl
-    or_assoc false b c = refl
+has_append kind (event ∷ events) more = ap (◌||◌ (eqb event.kind kind)) (has_append kind events more) ∙ sym (or_assoc (eqb event.kind kind) _ _)
 
 none_parts : (kind : ℕ) (bus : Bus) (calls more : List Call) → has_kind kind (accepted_of bus (calls ++ more)) ≡ false
     → (has_kind kind (accepted_of bus calls) ≡ false) × (has_kind kind (accepted_of (after_all bus calls) more) ≡ false)
