@@ -7,8 +7,8 @@ ghost use Rattle.phases.specs.Drivers.{number_of_driver};
 ghost use Rattle.phases.specs.Status.{status_of};
 ghost use Rattle.phases.specs.Control.{strobe_of, control_in, is_mwrt};
 
+use phases::Driver;
 use phases::numbers::*;
-use phases::{Driver, has_cycles};
 
 // What stands on the lines in a phase: who drives the address, status, data-out and control lines, and the true signals.
 #[derive(Clone, Copy)]
@@ -167,7 +167,10 @@ pub fn control(phase: u8, kind: u8) -> u8
 fn strobe_in(phase: u8, kind: u8) -> u8
     ensures { result ≡ cond (has_cycles phase) (strobe_of kind) 0 }
 {
-    if has_cycles(phase) { strobe(kind) } else { 0 }
+    match phase {
+        FREE | ARBITRATION | OWNED => strobe(kind),
+        _ => 0,
+    }
 }
 
 #[tactic(auto, using(crate::proofs::TableRules::masks_hold_acknowledge))]
