@@ -1,45 +1,33 @@
-// Four pins as a digit, and where each twenty begin among the digits.
-ghost use Rattle.std.specs.Prelude.{cond, ◌≡◌, ◌+◌, ◌≤◌};
+// Four pins as a digit, and whether a line is true.
+ghost use Rattle.std.specs.Prelude.{◌≡◌, ◌<◌};
+ghost use Rattle.words.specs.Bits.{bit_at};
+ghost use Rattle.phases.specs.Signal.{is_on};
 ghost use Rattle.text.specs.Digits.{digit_of};
 ghost use Rattle.pins.specs.Picture.{four_bits};
 
 use printing::digit;
 
 // The digit where no pin is high, or none is driven.
-pub const ZERO: u8 = 0x30;
-
-pub const PINS_1: usize = 0;
-
-pub const PINS_21: usize = PINS_1 + 5;
-
-pub const PINS_41: usize = PINS_21 + 5;
-
-pub const PINS_61: usize = PINS_41 + 5;
-
-pub const PINS_81: usize = PINS_61 + 5;
+pub const ZERO: u8 = b'0';
 
 pub fn pin_digit(a: bool, b: bool, c: bool, d: bool) -> u8
     ensures { result ≡ digit_of (four_bits a b c d) }
 {
-    digit(four_bits(a, b, c, d))
+    digit(u8::from(a) * 8 + u8::from(b) * 4 + u8::from(c) * 2 + u8::from(d))
 }
 
-fn four_bits(a: bool, b: bool, c: bool, d: bool) -> u8
-    ensures { result ≡ four_bits a b c d }
+// The line of that number in an address or a byte.
+pub fn bit_at(lines: u32, n: u32) -> bool
+    requires { n < 32 }
+    ensures { result ≡ bit_at lines n }
 {
-    weighed(a, 8) + weighed(b, 4) + weighed(c, 2) + weighed(d, 1)
+    (lines >> n) % 2 == 1
 }
 
-fn weighed(b: bool, weight: u8) -> u8
-    ensures is { result ≡ cond b weight 0 }
-    ensures at_most { result ≤ weight }
+// The line of that weight in a byte.
+pub fn is_on(weight: u8, byte: u8) -> bool
+    requires { 0 < weight }
+    ensures { result ≡ is_on weight byte }
 {
-    if b { weight } else { 0 }
-}
-
-// One of two digits.
-pub fn either(first: bool, a: u8, b: u8) -> u8
-    ensures { result ≡ cond first a b }
-{
-    if first { a } else { b }
+    (byte / weight) % 2 == 1
 }

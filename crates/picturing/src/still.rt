@@ -1,128 +1,94 @@
 // A picture with no cycle on: address, status and data are neither driven nor high, and most digits are always the same.
-ghost use Rattle.std.specs.Prelude.{false, ◌++◌, ◌≡◌, length};
-ghost use Rattle.pins.specs.Picture.{driven_of};
+ghost use Rattle.std.specs.Prelude.{false, ◌++◌, ◌≡◌};
+ghost use Rattle.std.proofs.lemmas.List.Edits.{sets};
+ghost use Rattle.pins.specs.Picture.{picture_of, driven_of};
 ghost use Rattle.pins.specs.declared.moments.Moment.{Moment};
 ghost use Rattle.picturing.specs.Fives.{five_levels};
 
-use crate::levels::{D0, D1, D2, D3};
 use crate::pin_digits::*;
 use phases::numbers::*;
 use pins::Moment;
+use pins::sizes::{PICTURE_DIGITS, PICTURE_LENGTH};
+use tables::mwrt;
 
-// DMA3 and the disable lines, pSTVAL and pHLDA, among pins 1 to 40.
-pub fn put_still_1(m: Moment, ten: &mut [u8])
-    requires ten_len { length ten.old ≡ 10 }
+pub fn put_still(m: Moment, line: &mut [u8; PICTURE_LENGTH])
     requires cyclic_value { m.cyclic ≡ false }
     requires dout_driven_value { m.doutDriven ≡ false }
-    ensures { ten.new ≡ five_levels 0 m ++ five_levels 5 m }
+    requires din_driven_value { m.dinDriven ≡ false }
+    ensures { line.new ≡ sets line.old 0 (picture_of m) }
 {
-    let lines = m.lines;
-    let signals = m.signals;
-    let control = m.control;
-    ten[0] = ZERO;
-    ten[1] = ZERO;
-    ten[2] = ZERO;
-    ten[3] = pin_digit(false, !(lines / D3 % 2 == 1), false, false);
-    ten[4] = pin_digit(
+    put_still_1(m, line);
+    put_still_41(m, line);
+    put_still_rest(line);
+}
+
+// DMA3 and the disable lines, pSTVAL and pHLDA, among pins 1 to 40.
+fn put_still_1(m: Moment, line: &mut [u8; PICTURE_LENGTH])
+    requires cyclic_value { m.cyclic ≡ false }
+    requires dout_driven_value { m.doutDriven ≡ false }
+    ensures { line.new ≡ sets line.old 0 (five_levels 0 m ++ five_levels 5 m) }
+{
+    let dma = u32::from(m.lines);
+    line[0] = ZERO;
+    line[1] = ZERO;
+    line[2] = ZERO;
+    line[3] = pin_digit(false, !bit_at(dma, 3), false, false);
+    line[4] = pin_digit(
         false,
-        !(signals / SDSB % 2 == 1),
-        !(signals / CDSB % 2 == 1),
-        false,
-    );
-    ten[5] = pin_digit(
-        false,
-        !(signals / ADSB % 2 == 1),
-        !(signals / DODSB % 2 == 1),
-        false,
-    );
-    ten[6] = pin_digit(
-        !(control / P_STVAL % 2 == 1),
-        control / P_HLDA % 2 == 1,
-        false,
+        !is_on(SDSB, m.signals),
+        !is_on(CDSB, m.signals),
         false,
     );
-    ten[7] = ZERO;
-    ten[8] = ZERO;
-    ten[9] = ZERO;
+    line[5] = pin_digit(
+        false,
+        !is_on(ADSB, m.signals),
+        !is_on(DODSB, m.signals),
+        false,
+    );
+    line[6] = pin_digit(
+        !is_on(P_STVAL, m.control),
+        is_on(P_HLDA, m.control),
+        false,
+        false,
+    );
+    line[7] = ZERO;
+    line[8] = ZERO;
+    line[9] = ZERO;
 }
 
 // The other priority lines, SIXTN, MWRT, HOLD and the other control outputs, among pins 41 to 80.
-pub fn put_still_41(m: Moment, ten: &mut [u8])
-    requires ten_len { length ten.old ≡ 10 }
+fn put_still_41(m: Moment, line: &mut [u8; PICTURE_LENGTH])
     requires cyclic_value { m.cyclic ≡ false }
     requires din_driven_value { m.dinDriven ≡ false }
-    ensures { ten.new ≡ five_levels 10 m ++ five_levels 15 m }
+    ensures { line.new ≡ sets line.old 10 (five_levels 10 m ++ five_levels 15 m) }
 {
-    let lines = m.lines;
-    let signals = m.signals;
-    let control = m.control;
-    let status = m.status;
-    ten[0] = ZERO;
-    ten[1] = ZERO;
-    ten[2] = ZERO;
-    ten[3] = pin_digit(false, false, !(lines / D0 % 2 == 1), !(lines / D1 % 2 == 1));
-    ten[4] = pin_digit(
-        !(lines / D2 % 2 == 1),
+    let dma = u32::from(m.lines);
+    line[10] = ZERO;
+    line[11] = ZERO;
+    line[12] = ZERO;
+    line[13] = pin_digit(false, false, !bit_at(dma, 0), !bit_at(dma, 1));
+    line[14] = pin_digit(!bit_at(dma, 2), false, false, !is_on(SIXTN, m.signals));
+    line[15] = ZERO;
+    line[16] = pin_digit(false, false, false, mwrt(m.control, m.status));
+    line[17] = ZERO;
+    line[18] = pin_digit(
         false,
+        !is_on(HOLD, m.signals),
         false,
-        !(signals / SIXTN % 2 == 1),
+        is_on(P_SYNC, m.control),
     );
-    ten[5] = ZERO;
-    ten[6] = pin_digit(
-        false,
-        false,
-        false,
-        (control / P_WR % 2 == 1) & !(status / S_OUT % 2 == 1),
-    );
-    ten[7] = ZERO;
-    ten[8] = pin_digit(
-        false,
-        !(signals / HOLD % 2 == 1),
-        false,
-        control / P_SYNC % 2 == 1,
-    );
-    ten[9] = pin_digit(
-        !(control / P_WR % 2 == 1),
-        control / P_DBIN % 2 == 1,
+    line[19] = pin_digit(
+        !is_on(P_WR, m.control),
+        is_on(P_DBIN, m.control),
         false,
         false,
     );
 }
 
 // Pins 81 to 100, and which of the hundred are driven.
-pub fn put_still_rest(rest: &mut [u8])
-    requires { length rest.old ≡ 30 }
+fn put_still_rest(line: &mut [u8; PICTURE_LENGTH])
     ensures { (m : Moment) → m.cyclic ≡ false → m.doutDriven ≡ false → m.dinDriven ≡ false
-        → rest.new ≡ five_levels 20 m ++ driven_of m }
+        → line.new ≡ sets line.old 20 (five_levels 20 m ++ driven_of m) }
 {
-    rest[0] = b'0';
-    rest[1] = b'0';
-    rest[2] = b'0';
-    rest[3] = b'0';
-    rest[4] = b'0';
-    rest[5] = b'0';
-    rest[6] = b'0';
-    rest[7] = b'0';
-    rest[8] = b'4';
-    rest[9] = b'6';
-    rest[10] = b'6';
-    rest[11] = b'C';
-    rest[12] = b'0';
-    rest[13] = b'0';
-    rest[14] = b'0';
-    rest[15] = b'0';
-    rest[16] = b'0';
-    rest[17] = b'0';
-    rest[18] = b'3';
-    rest[19] = b'9';
-    rest[20] = b'0';
-    rest[21] = b'1';
-    rest[22] = b'0';
-    rest[23] = b'5';
-    rest[24] = b'C';
-    rest[25] = b'0';
-    rest[26] = b'0';
-    rest[27] = b'0';
-    rest[28] = b'0';
-    rest[29] = b'0';
+    line[20..PICTURE_DIGITS].copy_from_slice(b"00000000466C000000390105C00000");
 }

@@ -54,10 +54,15 @@ outcome_put lines at f =
     let last : at + 8 ≡ suc (suc (suc (suc (suc (suc (suc (suc at))))))) = omega arith in
     rw (second, third, fourth, last) refl
 
--- a line at the front of a place
-pub answer_in_place : (place : List ℕ) (a : Answer) → answer_length ≤ length place → answer_line a ++ drop 19 place ≡ sets place 0 (answer_line a)
+-- what is put at the front of a place, and behind it the rest of the place
+pub put_in_front : (place bytes : List ℕ) {n : ℕ} → length bytes ≡ n → n ≤ length place → bytes ++ drop n place ≡ sets place 0 bytes
+put_in_front place bytes {n} long room =
+    let behind : n ≡ 0 + length bytes = omega (arith, long) in
+    ap (λ (k : ℕ). bytes ++ drop k place) behind ∙ sym (sets-eq bytes place 0 (omega (arith, long, room)))
+
+pub answer_long : (a : Answer) → length (answer_line a) ≡ answer_length
 unfolding digits_of
-answer_in_place place a room = sym (sets-eq (answer_line a) place 0 room)
+answer_long a = refl
 
 -- ---- The lines of several cards
 
@@ -74,7 +79,5 @@ line_next bus place card =
 pub outcomes_in_place : (bus : Bus) (place front lines : List ℕ) → outcomes_length ≤ length place → length front ≡ outcomes_length
     → lines ≡ sets front 0 (outcome_lines bus) → lines ++ drop 144 place ≡ sets place 0 (outcome_lines bus)
 outcomes_in_place bus place front lines room long so =
-    let behind : 144 ≡ 0 + length (outcome_lines bus) = omega (arith, outcomes_long bus 16) in
     ap (λ (l : List ℕ). l ++ drop 144 place) (so ∙ sets_all front (outcome_lines bus) (outcomes_long bus 16 ∙ sym long))
-    ∙ ap (λ (k : ℕ). outcome_lines bus ++ drop k place) behind
-    ∙ sym (sets-eq (outcome_lines bus) place 0 (omega (arith, room, outcomes_long bus 16)))
+    ∙ put_in_front place (outcome_lines bus) (outcomes_long bus 16) room

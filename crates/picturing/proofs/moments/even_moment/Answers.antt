@@ -1,6 +1,11 @@
--- By what the calls give.
+-- The datum's high half.
+use Prim.Native.Nat.{◌/◌, ◌%◌}
+use mathlib.Core.Path.{◌≡◌}
+use native.Mathlib.Omega.{arith}
 use Rattle.picturing.proofs.moments.even_moment.Goals as goal
 
 pub returns : goal.returns
 returns c =
-    rw c.even_half.ensures at c.byte_moment.ensures
+    let datum = c.args.answer.datum in
+    let high : datum / 256 % 256 ≡ datum / 256 = omega arith in
+    rw (c.to_be_bytes.ensures, high) at c.byte_moment.ensures

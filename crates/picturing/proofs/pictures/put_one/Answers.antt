@@ -1,8 +1,15 @@
 -- One line at the front.
-use mathlib.Core.Path.{refl}
-use Rattle.picturing.proofs.FilledLaws.{one_filled}
+use mathlib.Core.Path.{ap, ◌∙◌}
+use mathlib.Core.List.{List, ◌++◌}
+use Prim.Native.Nat.{ℕ}
+use native.Mathlib.Omega.{arith}
+use lib.ListN.{drop}
+use Rattle.pins.specs.Picture.{picture_length}
+use Rattle.pins.proofs.DigitLaws.{line_long}
+use Rattle.printing.proofs.LineLaws.{put_in_front}
 use Rattle.picturing.proofs.pictures.put_one.Goals as goal
 
-pub returns : goal.returns
-returns c =
-    record { put = refl; left = one_filled c.args.out.now c.args.m c.requires c.put_line.ensures }
+pub returns-clause-left : goal.returns-clause-left
+returns-clause-left c =
+    let place = c.args.lines.now in
+    ap (λ (l : List ℕ). l ++ drop picture_length place) c.put_line.ensures ∙ put_in_front place _ (line_long c.args.m) (omega (arith, c.told-lines))

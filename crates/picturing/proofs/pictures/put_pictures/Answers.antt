@@ -1,19 +1,23 @@
 -- Where there is room.
-use mathlib.Core.Path.{refl}
-use native.Mathlib.Omega.{arith}
-use borrow.Author.Tests.{le-leb, lt-leb}
-use lib.ListN.{length}
-use Rattle.words.proofs.TestLaws.{then_pick, else_pick}
+use mathlib.Core.Path.{refl, ap, ◌∙◌}
+use mathlib.Core.List.{List, ◌++◌}
+use Prim.Native.Nat.{ℕ}
+use borrow.Author.Tests.{le-leb}
+use lib.ListN.{length, drop}
+use Rattle.words.proofs.TestLaws.{then_pick}
 use Rattle.pins.specs.Picture.{most_pictured}
+use Rattle.pins.proofs.DigitLaws.{pictures_fit}
+use Rattle.picturing.proofs.FilledLaws.{front_put}
 use Rattle.picturing.proofs.pictures.put_pictures.Goals as goal
 
-pub returns-then-out-ge-MOST_PICTURED : goal.returns-then-out-ge-MOST_PICTURED
-returns-then-out-ge-MOST_PICTURED c =
-    let given = c.args in
-    let room = le-leb most_pictured (length given.out.now) (omega (arith, c.if-out-ge-MOST_PICTURED.true)) in
-    record { put = then_pick 0 room c.put_accepted.ensures.put; left = then_pick given.out.now room c.put_accepted.ensures.left }
+pub returns-clause-put : goal.returns-clause-put
+returns-clause-put c =
+    then_pick 0 (le-leb most_pictured (length c.args.out.now) (c.in-Some.ensures.variant.0 refl)) c.put_accepted.ensures.put
 
-pub returns-else-out-ge-MOST_PICTURED : goal.returns-else-out-ge-MOST_PICTURED
-returns-else-out-ge-MOST_PICTURED c =
-    let small = lt-leb most_pictured (length c.args.out.now) (omega (arith, c.if-out-ge-MOST_PICTURED.false)) in
-    record { put = else_pick _ small refl; left = else_pick _ small refl }
+pub returns-clause-left : goal.returns-clause-left
+returns-clause-left c =
+    let place = c.args.out.now in
+    let room = c.in-Some.ensures.variant.0 refl in
+    then_pick place (le-leb most_pictured (length place) room) (
+    ap (λ (l : List ℕ). l ++ drop most_pictured place) c.put_accepted.ensures.left
+    ∙ front_put place c.in-Some.lines.now most_pictured _ c.in-Some.ensures.cases.same room (pictures_fit c.args.event c.args.answer))

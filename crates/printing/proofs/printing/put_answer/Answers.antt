@@ -6,7 +6,7 @@ use borrow.Author.Tests.{le-leb}
 use lib.ListN.{length, drop}
 use Rattle.words.proofs.TestLaws.{then_pick}
 use Rattle.text.specs.AnswerLine.{answer_length}
-use Rattle.printing.proofs.LineLaws.{answer_in_place}
+use Rattle.printing.proofs.LineLaws.{put_in_front, answer_long}
 use Rattle.printing.proofs.printing.put_answer.Goals as goal
 
 pub returns-clause-left : goal.returns-clause-left
@@ -14,4 +14,4 @@ returns-clause-left c =
     let place = c.args.out.now in
     let room = c.in-Some.ensures.variant.0 refl in
     then_pick place (le-leb answer_length (length place) room) (
-    ap (λ (l : List ℕ). l ++ drop 19 place) c.put_line.ensures ∙ answer_in_place place c.args.answer room)
+    ap (λ (l : List ℕ). l ++ drop 19 place) c.put_line.ensures ∙ put_in_front place _ (answer_long c.args.answer) room)
