@@ -27,9 +27,9 @@ fn put_levels_1(m: Moment, line: &mut [u8; PICTURE_LENGTH])
 {
     let a = m.address;
     let dma = u32::from(m.lines);
-    line[0] = ZERO;
-    line[1] = ZERO;
-    line[2] = ZERO;
+    line[0] = b'0';
+    line[1] = b'0';
+    line[2] = b'0';
     line[3] = pin_digit(false, !bit_at(dma, 3), bit_at(a, 18), bit_at(a, 16));
     line[4] = pin_digit(
         bit_at(a, 17),
@@ -92,7 +92,7 @@ fn put_levels_41(m: Moment, line: &mut [u8; PICTURE_LENGTH])
         cyclic & is_on(S_MEMR, status),
         false,
     );
-    line[12] = ZERO;
+    line[12] = b'0';
     line[13] = pin_digit(false, false, !bit_at(dma, 0), !bit_at(dma, 1));
     line[14] = pin_digit(
         !bit_at(dma, 2),
@@ -109,7 +109,7 @@ fn put_levels_61(m: Moment, line: &mut [u8; PICTURE_LENGTH])
     let a = m.address;
     line[15] = pin_digit(bit_at(a, 20), bit_at(a, 21), bit_at(a, 22), bit_at(a, 23));
     line[16] = pin_digit(false, false, false, mwrt(m.control, m.status));
-    line[17] = ZERO;
+    line[17] = b'0';
     line[18] = pin_digit(
         false,
         !is_on(HOLD, m.signals),

@@ -7,9 +7,6 @@ ghost use Rattle.pins.specs.Picture.{four_bits};
 
 use printing::digit;
 
-// The digit where no pin is high, or none is driven.
-pub const ZERO: u8 = b'0';
-
 pub fn pin_digit(a: bool, b: bool, c: bool, d: bool) -> u8
     ensures { result ≡ digit_of (four_bits a b c d) }
 {

@@ -29,9 +29,9 @@ fn put_still_1(m: Moment, line: &mut [u8; PICTURE_LENGTH])
     ensures { line.new ≡ sets line.old 0 (five_levels 0 m ++ five_levels 5 m) }
 {
     let dma = u32::from(m.lines);
-    line[0] = ZERO;
-    line[1] = ZERO;
-    line[2] = ZERO;
+    line[0] = b'0';
+    line[1] = b'0';
+    line[2] = b'0';
     line[3] = pin_digit(false, !bit_at(dma, 3), false, false);
     line[4] = pin_digit(
         false,
@@ -51,9 +51,9 @@ fn put_still_1(m: Moment, line: &mut [u8; PICTURE_LENGTH])
         false,
         false,
     );
-    line[7] = ZERO;
-    line[8] = ZERO;
-    line[9] = ZERO;
+    line[7] = b'0';
+    line[8] = b'0';
+    line[9] = b'0';
 }
 
 // The other priority lines, SIXTN, MWRT, HOLD and the other control outputs, among pins 41 to 80.
@@ -63,14 +63,14 @@ fn put_still_41(m: Moment, line: &mut [u8; PICTURE_LENGTH])
     ensures { line.new ≡ sets line.old 10 (five_levels 10 m ++ five_levels 15 m) }
 {
     let dma = u32::from(m.lines);
-    line[10] = ZERO;
-    line[11] = ZERO;
-    line[12] = ZERO;
+    line[10] = b'0';
+    line[11] = b'0';
+    line[12] = b'0';
     line[13] = pin_digit(false, false, !bit_at(dma, 0), !bit_at(dma, 1));
     line[14] = pin_digit(!bit_at(dma, 2), false, false, !is_on(SIXTN, m.signals));
-    line[15] = ZERO;
+    line[15] = b'0';
     line[16] = pin_digit(false, false, false, mwrt(m.control, m.status));
-    line[17] = ZERO;
+    line[17] = b'0';
     line[18] = pin_digit(
         false,
         !is_on(HOLD, m.signals),
