@@ -1,4 +1,4 @@
-// The phases, the kinds of events and what stands on the lines, by number.
+// The phases, the kinds of events and what stands on the lines, by number and by name.
 #![tactic(auto)]
 
 mod drivers;
