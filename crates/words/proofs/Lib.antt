@@ -7,3 +7,4 @@ pub mod ListLaws
 pub mod FirstLaws
 pub mod RowLaws
 pub mod PartLaws
+pub mod PlacedLaws

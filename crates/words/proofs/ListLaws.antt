@@ -1,26 +1,23 @@
 -- Laws of lists: who is in a list, and what an entry is once some entry has been set.
-use mathlib.Core.Path.{◌≡◌, refl, sym, ap, ap₂, ◌∙◌, subst}
+use mathlib.Core.Path.{◌≡◌, refl, sym, ap, ◌∙◌, subst}
 use mathlib.Core.Logic.{◌⊎◌, inl, inr, ⊎_elim}
 use mathlib.Core.Bool.{Bool, true, false, cond, ◌&&◌, false≢true}
 use mathlib.Core.List.{List, [], ◌∷◌}
 use Prim.Native.Nat.{ℕ, zero, suc, ◌<◌, ◌≤◌}
 use native.Mathlib.Decide.{ℕ_discrete, dec_lt}
-use native.Mathlib.Nat.{le_refl, zero-add}
+use native.Mathlib.Nat.{le_refl}
 use native.Mathlib.Numerals.{add-one}
 use native.Mathlib.Omega.{arith}
 use lib.Dec.{eqb}
 use lib.ListN.{length, get_or, set, take}
 use lib.Seq.{take-length, get_or-set_same, get_or-set_other, set_out}
 use borrow.Author.Tests.{eqb-true, eq-eqb, ne_eqb}
-use Rattle.std.specs.List.{list_all, zip, range_with_len}
-use Rattle.std.proofs.lemmas.List.{get_or_default}
+use Rattle.std.specs.List.{list_all}
 use Rattle.std.proofs.lemmas.List.Folds.{list_all_more}
-use Rattle.std.proofs.lemmas.List.FromFn.{length-range_with_len, get_or-range_with_len}
-use Rattle.std.proofs.lemmas.Slice.Zip.{length-zip, get_or-zip}
 use Rattle.words.specs.Below.{all_below}
 use Rattle.words.specs.Among.{is_among, every_listed}
 use Rattle.words.proofs.TestLaws.{either_of}
-use Rattle.words.proofs.BelowLaws.{all_at, all_of, all_same}
+use Rattle.words.proofs.BelowLaws.{all_at, all_of}
 
 -- nobody is in the empty list, and who is in a longer one is its head or in its tail
 pub among_none : (n : ℕ) → is_among n [] ≡ true → ⊥
@@ -49,31 +46,12 @@ module _ {A : Type 0} (test : A → Bool) (items : List A) (other : A) where
       rw (← add-one n) (list_all_more test items n other h)
       ∙ ap (λ (b : Bool). b && test (get_or items n other)) (all_leading n (omega (arith, h)))
 
-  one_by_one : list_all test items ≡ all_below (λ i. test (get_or items i other)) (length items)
+  pub one_by_one : list_all test items ≡ all_below (λ i. test (get_or items i other)) (length items)
   one_by_one = ap (list_all test) (sym (take-length items)) ∙ all_leading (length items) (le_refl (length items))
 
 pub every_listed_holds : (test : ℕ → Bool) (numbers : List ℕ) → list_all test numbers ≡ every_listed test numbers
 unfolding every_listed
 every_listed_holds test numbers = one_by_one test numbers 0
-
--- each number below a bound, with what the list has in its place
-module _ (numbers : List ℕ) (n : ℕ) (size : length numbers ≡ n) where
-  abbrev pub placed : List (ℕ × ℕ)
-  placed = zip (range_with_len 0 n) numbers
-
-  pub as_many_placed : length placed ≡ n
-  as_many_placed = length-zip (range_with_len 0 n) numbers ∙ omega (arith, length-range_with_len 0 n, size)
-
-  pub placed_at : (k : ℕ) (other : ℕ × ℕ) → k < n → get_or placed k other ≡ (k, get_or numbers k 0)
-  placed_at k other h =
-      get_or-zip (range_with_len 0 n) numbers k other (omega (arith, length-range_with_len 0 n)) (omega (arith, size))
-      ∙ ap₂ (λ (x y : ℕ). (x, y)) (get_or-range_with_len 0 n k other.0 h ∙ zero-add k) (get_or_default numbers k other.1 0 (omega (arith, size)))
-
-  pub each_place_holds : (test : ℕ → ℕ → Bool) → list_all (λ (p : ℕ × ℕ). test p.0 p.1) placed ≡ all_below (λ i. test i (get_or numbers i 0)) n
-  each_place_holds test =
-      one_by_one (λ (p : ℕ × ℕ). test p.0 p.1) placed (0, 0)
-      ∙ ap (all_below _) as_many_placed
-      ∙ all_same _ _ n (λ k h. ap (λ (p : ℕ × ℕ). test p.0 p.1) (placed_at k (0, 0) h))
 
 -- the entry at j once the one at i has been set
 pub get_d_set : (l : List ℕ) (i j v : ℕ) → i < length l → get_or (set l i v) j 0 ≡ cond (eqb j i) v (get_or l j 0)

@@ -7,11 +7,10 @@ use native.Mathlib.Omega.{arith}
 use borrow.Author.Rules.{rules}
 use borrow.Author.Tests.{tests, leb-true, le-leb, eqb-true, eq-eqb}
 use lib.Dec.{eqb, leb}
-use Rattle.std.proofs.lemmas.Iterator.{YieldsList-from_slice, YieldsList-from_range, YieldsList-from_zip}
 use Rattle.std.proofs.lemmas.Iterator.Search.{all_from_yields_List}
 use Rattle.words.proofs.TestLaws.{tests_same}
 use Rattle.words.proofs.BelowLaws.{all_same}
-use Rattle.words.proofs.ListLaws.{each_place_holds}
+use Rattle.words.proofs.PlacedLaws.{each_place_holds, in_place_order}
 use Rattle.cards.specs.Cards.{card_in}
 use Rattle.bus.proofs.SenseLaws.{levels_fit}
 use Rattle.sense.proofs.driving_fits.Goals as goal
@@ -29,7 +28,7 @@ returns c =
     let contenders = c.args.contenders in
     let driven = c.args.driven in
     all_from_yields_List (λ (p : ℕ × ℕ). leb p.1 (cond (card_in contenders p.0) 15 0)) c.all.new.self _ _ c.all.ensures.ran
-    (YieldsList-from_zip (YieldsList-from_range 0 16 16 (cc) (omega arith)) (YieldsList-from_slice driven cc))
+    (in_place_order driven 16 (search rules) (cc) (cc))
     (λ x b q k. search (rules, tests))
     ∙ each_place_holds driven 16 (search rules) (λ n level. leb level (cond (card_in contenders n) 15 0))
     ∙ all_same _ _ 16 (λ k h. at_most_counted (card_in contenders k) _)
