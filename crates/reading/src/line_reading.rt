@@ -1,15 +1,15 @@
 // What a text begins with, and the two kinds of line that are read.
-ghost use Rattle.std.specs.Prelude.{ℕ, ◌≡◌, ◌+◌, ◌<◌, eqb, length, get_or, take, MatchOption};
+ghost use Rattle.std.specs.Prelude.{◌≡◌, ◌<◌, eqb, length, get_or, take, MatchOption};
 ghost use Rattle.std.specs.List.{position};
-ghost use Rattle.text.specs.Digits.{value_of};
 ghost use Rattle.text.specs.Faults.{leading_digits};
 ghost use Rattle.text.specs.Newlines.{newline, first_line};
-ghost use Rattle.text.specs.Frames.{event_digits, event_in, bad_line, line_in, next_line, setup_in, chassis_in};
+ghost use Rattle.text.specs.Frames.{event_digits, event_in, bad_line, line_in, next_line, setup_in, chassis_in, pages_in};
 ghost use Rattle.text.specs.Told.{bad_line_told, line_told, next_line_told, setup_told};
 
 use crate::digits::Digits;
 use bus::Chassis;
 use judgement::Event;
+use std::array::from_fn;
 use text::Fault;
 use text::frames::*;
 
@@ -114,12 +114,7 @@ fn chassis_in(line: Digits<SETUP_DIGITS>) -> Chassis
 }
 
 fn pages_in(line: Digits<SETUP_DIGITS>) -> [u8; 16]
-    ensures long { length result ≡ 16 }
-    ensures each { (page : ℕ) → page < 16 → get_or result page 0 ≡ value_of (get_or line.entry.line.now (4 + page) 0) }
+    ensures { result ≡ pages_in line.entry.line.now }
 {
-    let mut pages = [0; 16];
-    for page in 0..16 {
-        pages[page] = line.value(PAGES_AT + page);
-    }
-    pages
+    from_fn(|page| line.value(PAGES_AT + page))
 }
