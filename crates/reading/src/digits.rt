@@ -1,12 +1,11 @@
 // Hexadecimal digits, and lines of them.
-ghost use Rattle.std.specs.Prelude.{true, ◌≡◌, ◌+◌, ◌<◌, ◌≤◌, get_or, IfOk, IfErr};
-ghost use Rattle.std.specs.Prelude.{not};
+ghost use Rattle.std.specs.Prelude.{true, not, ◌≡◌, ◌+◌, ◌<◌, ◌≤◌, get_or, IfOk, IfErr};
 ghost use Rattle.std.specs.List.{position};
-ghost use Rattle.words.specs.Among.{every_listed};
 ghost use Rattle.text.specs.Digits.{is_digit, is_digits, value_of, number_of};
 ghost use Rattle.text.specs.Faults.{leading_digits, fault_of};
 ghost use Rattle.text.specs.Frames.{digits_from};
 ghost use Rattle.text.specs.Told.{fault_told};
+ghost use Rattle.text.specs.declared.fault.Fault.TheVariants.{WrongCharacter};
 
 use text::Fault;
 
@@ -29,6 +28,16 @@ fn first_wrong(line: &[u8]) -> Option<usize>
     ensures { result ≡ position (λ b. not (is_digit b)) line.now }
 {
     line.iter().position(|b| !is_digit(*b))
+}
+
+// The character behind so many digits is wrong.
+pub fn wrong_behind(leading: usize) -> Fault
+    requires { leading < 0xFF }
+    ensures { result ≡ WrongCharacter (leading + 1) }
+{
+    Fault::WrongCharacter {
+        column: leading as u8 + 1,
+    }
 }
 
 // A line of so many digits.
@@ -55,14 +64,12 @@ impl<'a, const N: usize> Digits<'a, N> {
         ensures ok { IfOk result (λ digits. digits.line.now ≡ line.now) }
         ensures err { IfErr result (λ found. fault_told found ≡ fault_of N line.now) }
     {
-        match <&[u8; N]>::try_from(line) {
-            Ok(line) => match Digits::of(line) {
-                Ok(digits) => Ok(digits),
-                Err(leading) => Err(Fault::WrongCharacter {
-                    column: leading as u8 + 1,
-                }),
-            },
-            Err(_) => Err(Fault::WrongLength),
+        let Ok(line) = line.try_into() else {
+            return Err(Fault::WrongLength);
+        };
+        match Digits::of(line) {
+            Ok(digits) => Ok(digits),
+            Err(leading) => Err(wrong_behind(leading)),
         }
     }
 

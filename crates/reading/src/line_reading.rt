@@ -6,7 +6,7 @@ ghost use Rattle.text.specs.Newlines.{newline, first_line};
 ghost use Rattle.text.specs.Frames.{event_digits, event_in, bad_line, line_in, next_line, setup_in, chassis_in, pages_in};
 ghost use Rattle.text.specs.Told.{bad_line_told, line_told, next_line_told, setup_told};
 
-use crate::digits::Digits;
+use crate::digits::{Digits, wrong_behind};
 use bus::Chassis;
 use judgement::Event;
 use std::array::from_fn;
@@ -72,9 +72,7 @@ fn bad_line(line: &[u8; EVENT_DIGITS], leading: usize) -> BadLine
 {
     let size = leading + line_end(&line[leading..]);
     let fault = if size == EVENT_DIGITS {
-        Fault::WrongCharacter {
-            column: leading as u8 + 1,
-        }
+        wrong_behind(leading)
     } else {
         Fault::WrongLength
     };

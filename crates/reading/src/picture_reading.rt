@@ -1,6 +1,8 @@
 // A line of a picture, read again: what its pins tell of phase, signals and priority lines.
-ghost use Rattle.std.specs.Prelude.{cond, not, ◌≡◌, ◌<◌, ◌≤◌, IfOk, IfSome};
+ghost use Rattle.std.specs.Prelude.{cond, ◌≡◌, ◌<◌, ◌≤◌, eqb, IfOk, IfSome};
+ghost use Rattle.std.specs.List.{find, range_with_len};
 ghost use Rattle.phases.specs.Phase.{transfer_two};
+ghost use Rattle.phases.specs.Signal.{signals_in};
 ghost use Rattle.pins.specs.ReadAgain.{bit_from, true_on, signals_on, priority_lines_on, phase_with, picture_in};
 ghost use Rattle.pins.specs.Told.{phase_told, picture_told};
 
@@ -8,6 +10,7 @@ use crate::digits::Digits;
 use phases::numbers::*;
 use pins::Seen;
 use pins::sizes::*;
+use tables::signals;
 use text::Fault;
 
 type Picture<'a> = Digits<'a, PICTURE_DIGITS>;
@@ -75,28 +78,16 @@ fn bit_from(picture: Picture, at: usize, pin: usize) -> bool
     (digit >> (3 - (pin - 1) % 4)) % 2 == 1
 }
 
-// What the phases' signals weigh together.
-const DISABLING: u8 = ADSB + SDSB + DODSB;
-
-const WITH_GRANT: u8 = HOLD + P_HLDA;
-
-const WITH_TRANSFER_ONE: u8 = WITH_GRANT + DISABLING;
-
-const WHILE_OWNED: u8 = WITH_TRANSFER_ONE + CDSB;
-
-const WITH_TRANSFER_TWO: u8 = P_HLDA + DISABLING;
-
+// Those of a word go by the cycle.
 fn phase_with(signals: u8) -> Option<u8>
     ensures is { phase_told result ≡ phase_with signals }
     ensures known { IfSome result (λ phase. phase ≤ transfer_two) }
 {
-    match signals % SIXTN {
-        0 => Some(FREE),
-        HOLD => Some(ARBITRATION),
-        WITH_GRANT => Some(GRANTED),
-        WITH_TRANSFER_ONE => Some(TRANSFER_ONE),
-        WHILE_OWNED => Some(OWNED),
-        WITH_TRANSFER_TWO => Some(TRANSFER_TWO),
-        _ => None,
-    }
+    phase_where(signals % SIXTN)
+}
+
+fn phase_where(standing: u8) -> Option<u8>
+    ensures { result ≡ find (λ phase. eqb standing (signals_in phase)) (range_with_len 0 6) }
+{
+    (FREE..LAST_PHASE + 1).find(|phase| standing == signals(*phase))
 }

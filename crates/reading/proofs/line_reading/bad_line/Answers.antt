@@ -23,7 +23,7 @@ returns-then-size-eq-EVENT_DIGITS c =
     -- it ends behind all fourteen bytes, so it is these
     let whole : first_line line ≡ line = whole_line line (sym ends ∙ all ∙ sym c.told-line) in
     let fault = wrong_behind event_digits line c.args.leading c.told-line c.requires.is c.requires.some in
-    rw (whole, ← fault, c.told-line, all) refl
+    rw (whole, ← fault, c.told-line, all, c.wrong_behind-fault.ensures) refl
 
 pub returns-else-size-eq-EVENT_DIGITS : goal.returns-else-size-eq-EVENT_DIGITS
 returns-else-size-eq-EVENT_DIGITS c =

@@ -1,48 +1,23 @@
--- The phase that has the signals, and computed over all others none.
-use mathlib.Core.Path.{refl, sym}
+-- The first phase that has the signals, in the table's order.
+use mathlib.Core.Path.{◌≡◌, refl, ap, ◌∙◌}
+use mathlib.Core.Bool.{Bool, true, false, cond}
 use Prim.Native.Nat.{ℕ, ◌%◌}
-use mathlib.Core.List.{List, [], ◌∷◌}
 use lib.Dec.{eqb}
-use borrow.Author.Rules.{rules}
-use borrow.Author.Tests.{eqb-true}
-use Rattle.words.specs.Below.{all_below}
-use Rattle.words.specs.Among.{is_among, who_has}
-use Rattle.words.proofs.RowLaws.{NoneOf, rest_of_match}
-use Rattle.phases.specs.Signal.{SIXTN, signal_table}
+use Rattle.std.specs.Prelude.{Option, Some}
+use Rattle.std.specs.List.{find, range_with_len}
+use Rattle.words.specs.Among.{beside, who_has}
+use Rattle.phases.specs.Signal.{SIXTN, signal_table, signals_in}
 use Rattle.pins.specs.ReadAgain.{phase_unknown}
+use Rattle.pins.specs.Told.{phase_told}
 use Rattle.reading.proofs.picture_reading.phase_with.Goals as goal
 
--- the signals that the match names, the last of them first
-abbrev named : List ℕ
-named = 0x1E ∷ 0x3F ∷ 0x1F ∷ 0x03 ∷ 0x01 ∷ 0x00 ∷ []
+told_first : (has : Bool) (phase : ℕ) (later : Option ℕ) → phase_told (cond has (Some phase) later) ≡ cond has phase (phase_told later)
+told_first true phase later = refl
+told_first false phase later = refl
 
-pub returns-in-0-clause-is : goal.returns-in-0-clause-is
-unfolding who_has
-returns-in-0-clause-is c = rw c.in-0.is
+in_order : (standing : ℕ) → phase_told (find (λ phase. eqb standing (signals_in phase)) (range_with_len 0 6)) ≡ who_has standing signal_table phase_unknown
+unfolding signals_in beside who_has
+in_order standing = simp told_first refl
 
-pub returns-in-1-clause-is : goal.returns-in-1-clause-is
-unfolding who_has
-returns-in-1-clause-is c = rw c.in-1.is
-
-pub returns-in-3-clause-is : goal.returns-in-3-clause-is
-unfolding who_has
-returns-in-3-clause-is c = rw c.in-3.is
-
-pub returns-in-31-clause-is : goal.returns-in-31-clause-is
-unfolding who_has
-returns-in-31-clause-is c = rw c.in-31.is
-
-pub returns-in-63-clause-is : goal.returns-in-63-clause-is
-unfolding who_has
-returns-in-63-clause-is c = rw c.in-63.is
-
-pub returns-in-30-clause-is : goal.returns-in-30-clause-is
-unfolding who_has
-returns-in-30-clause-is c = rw c.in-30.is
-
-pub returns-in_default-clause-is : goal.returns-in_default-clause-is
-unfolding all_below is_among who_has NoneOf
-returns-in_default-clause-is c =
-    let standing : ℕ = c.args.signals % SIXTN in
-    let none : NoneOf standing named = search rules in
-    sym (eqb-true _ _ (rest_of_match (λ k. eqb (who_has k signal_table phase_unknown) phase_unknown) named SIXTN refl standing (search rules) none))
+pub returns-clause-is : goal.returns-clause-is
+returns-clause-is c = ap phase_told c.phase_where.ensures ∙ in_order (c.args.signals % SIXTN)
