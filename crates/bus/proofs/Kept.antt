@@ -17,7 +17,7 @@ use Rattle.cards.specs.Cards.{card_in, some_card, is_within}
 use Rattle.cards.proofs.CardLaws.{card_below, none_in_empty, within_at, some_at}
 use Rattle.bus.specs.Refusal as Refusal
 use Rattle.bus.specs.State.{chassis_of, free_bus, changed, nobody, silent, arbitration_of, lines_of, is_settled}
-use Rattle.bus.specs.Steps.{may_request, may_look, looked_by, after_looks_of, may_acknowledge, may_transfer, reset_to}
+use Rattle.bus.specs.Steps.{may_request, may_look, looked_by, after_looks_of, may_acknowledge, may_transfer, transferred, reset_to}
 use Rattle.bus.specs.Step.{step_by}
 use Rattle.bus.specs.Settle.{leading_looks, settle_refusal, settle_refused, accepted_after, settle_of}
 use Rattle.bus.specs.Promises.{
@@ -190,25 +190,22 @@ unfolding after_looks_of
 looks_sense [] bus s = s
 looks_sense (card ∷ cards) bus s = looks_sense cards (looked_by bus card) (look_sense bus card s)
 
+-- a granted card's step, from one of its phases to another
+handed_on : (bus : Bus) (from to : ℕ) → (Phase.granted ≤ from) × (from ≤ Phase.transfer_two) → (Phase.granted ≤ to) × (to ≤ Phase.transfer_two) → (card : ℕ)
+    → Sensible bus → Sensible (transferred bus from to card)
+handed_on bus from to before after card s =
+    either_sense (may_transfer bus from card) (λ may. transfer_sense bus from card before.0 before.1 s may to after.0 after.1) s
+
 -- ---- All of them
 
 keeps_sense : (step : Step) (bus : Bus) (speaker datum : ℕ) → Sensible bus → Sensible (step_by step bus speaker datum)
 keeps_sense Step.Request bus speaker datum s = either_sense (may_request bus datum) (request_sense bus datum s) s
 keeps_sense Step.Look bus speaker datum s = look_sense bus speaker s
 keeps_sense Step.Acknowledge bus speaker datum s = either_sense (may_acknowledge bus) (acknowledge_sense bus s) s
-keeps_sense Step.BeginTransferOne bus speaker datum s =
-    either_sense (may_transfer bus Phase.granted speaker)
-    (λ may. transfer_sense bus Phase.granted speaker (lit≤ tt) (lit≤ tt) s may Phase.transfer_one (lit≤ tt) (lit≤ tt))
-    s
-keeps_sense Step.TakeBus bus speaker datum s =
-    either_sense (may_transfer bus Phase.transfer_one speaker)
-    (λ may. transfer_sense bus Phase.transfer_one speaker (lit≤ tt) (lit≤ tt) s may Phase.owned (lit≤ tt) (lit≤ tt))
-    s
+keeps_sense Step.BeginTransferOne bus speaker datum s = handed_on bus Phase.granted Phase.transfer_one (lit≤ tt, lit≤ tt) (lit≤ tt, lit≤ tt) speaker s
+keeps_sense Step.TakeBus bus speaker datum s = handed_on bus Phase.transfer_one Phase.owned (lit≤ tt, lit≤ tt) (lit≤ tt, lit≤ tt) speaker s
 keeps_sense Step.Cycle bus speaker datum s = s
-keeps_sense Step.BeginTransferTwo bus speaker datum s =
-    either_sense (may_transfer bus Phase.owned speaker)
-    (λ may. transfer_sense bus Phase.owned speaker (lit≤ tt) (lit≤ tt) s may Phase.transfer_two (lit≤ tt) (lit≤ tt))
-    s
+keeps_sense Step.BeginTransferTwo bus speaker datum s = handed_on bus Phase.owned Phase.transfer_two (lit≤ tt, lit≤ tt) (lit≤ tt, lit≤ tt) speaker s
 keeps_sense Step.GiveBack bus speaker datum s =
     either_sense (may_transfer bus Phase.transfer_two speaker) (give_back_sense bus Phase.transfer_two speaker (lit≤ tt) (lit≤ tt) s) s
 keeps_sense Step.Reset bus speaker datum s = reset_sense bus s

@@ -10,33 +10,18 @@ use lib.Dec.{eqb, lit<}
 use lib.ListN.{length, take}
 use lib.Seq.{take-length}
 use borrow.Author.Tests.{eqb-true, eqb-false, eq-eqb, ne_eqb, not-true, not-false}
-use Rattle.words.specs.First.{first_of, applies_as, ascends_from}
+use Rattle.words.specs.First.{applies_as, ascends_from}
 use Rattle.words.proofs.TestLaws.{true_or_false}
 use Rattle.words.proofs.BelowLaws.{all_at, all_of, some_not}
-use Rattle.words.proofs.FirstLaws.{first_by_number, least_passes, least_first, least_below_holds}
+use Rattle.words.proofs.FirstLaws.{first_below, first_none, first_by_number, least_passes, least_first, least_below_holds}
 use Rattle.lines.specs.Arbitration.{Highest}
 use Rattle.phases.specs.Phase as Phase
 use Rattle.bus.specs.Refusal as Refusal
 use Rattle.bus.specs.State.{arbitration_of, is_settled}
-use Rattle.bus.specs.Sense.{codes_known, makes_sense, is_senseless}
+use Rattle.bus.specs.Sense.{codes_known, makes_sense}
 use Rattle.bus.specs.Setup.{setup_of}
 use Rattle.bus.specs.Steps.{after_looks_of}
-use Rattle.bus.specs.Settle.{
-  Settlement,
-  settled_after,
-  leading_looks,
-  never_settles,
-  lists_no_card,
-  lists_unfitted,
-  is_elsewhere,
-  lists_idle,
-  settle_reasons,
-  list_refusal,
-  settle_refusal,
-  settle_refused,
-  accepted_after,
-  settle_of,
-}
+use Rattle.bus.specs.Settle.{Settlement, settled_after, leading_looks, never_settles, list_reasons, settle_reasons, list_refusal, settle_refusal, settle_refused, accepted_after, settle_of}
 use Rattle.bus.specs.Promises.{SettledBy, SettleRefusedKeeps, SettleCountsLeast, SettleByNumber, NoBuffersThere, SettleUnsettled, FourRoundsListed}
 use Rattle.bus.specs.declared.state.Bus.{Bus}
 use Rattle.bus.specs.declared.state.Chassis.{Chassis}
@@ -151,37 +136,22 @@ settle_unsettled bus cards e = (
 
 -- ---- A list of four rounds
 
-abbrev first : Bool → Bool → Bool → Bool → Bool → ℕ
-first a b c d e =
-    cond a Refusal.senseless (cond b Refusal.malformed (cond c Refusal.not_fitted (cond d Refusal.wrong_phase (cond e Refusal.not_its_turn 0))))
-
 -- what is wrong with a list is never that the lines are unsettled
 list_never_unsettled : (bus : Bus) (cards : List ℕ) → list_refusal bus cards ≡ Refusal.unsettled → ⊥
-unfolding list_refusal first_of
-list_never_unsettled bus cards = go (is_senseless bus) (lists_no_card cards) (lists_unfitted bus cards) (is_elsewhere bus) (lists_idle bus cards)
-  where
-    go : (a b c d e : Bool)
-        → first a b c d e ≡ Refusal.unsettled → ⊥
-    go true b c d e h = omega (arith, h)
-    go false true c d e h = omega (arith, h)
-    go false false true d e h = omega (arith, h)
-    go false false false true e h = omega (arith, h)
-    go false false false false true h = omega (arith, h)
-    go false false false false false h = omega (arith, h)
+unfolding list_refusal
+list_never_unsettled bus cards e =
+    let lower = first_below Refusal.unsettled (list_reasons bus cards) (lit< tt) refl in
+    omega (arith, lower, e)
 
 -- where nothing is wrong the state makes sense, and is in arbitration
 pub list_in_order : (bus : Bus) (cards : List ℕ) → list_refusal bus cards ≡ 0 → (makes_sense bus ≡ true) × (bus.phase ≡ Phase.arbitration)
-unfolding list_refusal first_of
+unfolding list_refusal
 list_in_order bus cards e =
-    let both = go (makes_sense bus) (lists_no_card cards) (lists_unfitted bus cards) (eqb bus.phase Phase.arbitration) (lists_idle bus cards) e in
-    (both.0, eqb-true _ _ both.1)
-  where
-    go : (a b c d e : Bool) → first (not a) b c (not d) e ≡ 0 → (a ≡ true) × (d ≡ true)
-    go false b c d e h = absurd (omega (arith, h))
-    go true true c d e h = absurd (omega (arith, h))
-    go true false true d e h = absurd (omega (arith, h))
-    go true false false false e h = absurd (omega (arith, h))
-    go true false false true e h = (refl, refl)
+    let senseless = first_none _ _ refl e in
+    let malformed = first_none _ _ refl senseless.1 in
+    let unfitted = first_none _ _ refl malformed.1 in
+    let elsewhere = first_none _ _ refl unfitted.1 in
+    (not-false _ senseless.0, eqb-true _ _ (not-false _ elsewhere.0))
 
 pub four_rounds_listed : FourRoundsListed
 four_rounds_listed bus r₁ r₂ r₃ r₄ e₁ e₂ e₃ e₄ further unsettled =

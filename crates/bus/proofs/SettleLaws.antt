@@ -17,7 +17,18 @@ use Rattle.words.proofs.FirstLaws.{Numbered, first_append, least_is}
 use Rattle.bus.specs.Refusal as Number
 use Rattle.bus.specs.State.{is_settled}
 use Rattle.bus.specs.Steps.{looked_by, after_looks_of}
-use Rattle.bus.specs.Settle.{Settlement, settled_after, leading_looks, never_settles, list_reasons, list_refusal, settle_refusal, settle_refused, accepted_after, settle_of}
+use Rattle.bus.specs.Settle.{
+  Settlement,
+  settled_after,
+  leading_looks,
+  never_settles,
+  list_reasons,
+  list_refusal,
+  settle_refusal,
+  settle_refused,
+  accepted_after,
+  settle_of,
+}
 use Rattle.bus.specs.Told.{number_of}
 use Rattle.bus.specs.declared.refusal.Refusal.{Refusal}
 use Rattle.bus.specs.declared.state.Bus.{Bus}
