@@ -14,6 +14,7 @@ use phases::numbers::ARBITRATION;
 use sense::makes_sense;
 
 // The state is only read.
+#[tactic(auto, using(crate::proofs::ToldLaws::told_refused, crate::proofs::Refused::decided))]
 pub fn outcome_for(bus: Bus, card: u8) -> Result<Outcome, Refusal>
     ensures { outcome_in result ≡ outcome_of bus card }
 {
@@ -43,6 +44,7 @@ fn check_asked(bus: Bus, card: u8) -> Result<(), Refusal>
     }
 }
 
+#[tactic(auto, unfolding(crate::specs::Outcomes::settled_outcome))]
 fn settled_outcome(bus: Bus, card: u8) -> Outcome
     ensures { outcome_in (Ok result) ≡ settled_outcome bus card }
 {
