@@ -1,8 +1,8 @@
 -- The laws of a picture's digits, for the code that puts them.
-use mathlib.Core.Path.{◌≡◌, refl, sym, ap, ◌∙◌}
+use mathlib.Core.Path.{◌≡◌, refl, ap, ◌∙◌}
 use mathlib.Core.Bool.{Bool, true, false, cond}
 use mathlib.Core.List.{List, [], ◌∷◌, ◌++◌, append-nil}
-use Prim.Native.Nat.{ℕ, ◌+◌, ◌%◌, ◌<◌, ◌≤◌}
+use Prim.Native.Nat.{ℕ, ◌+◌, ◌<◌, ◌≤◌}
 use native.Mathlib.Omega.{arith}
 use lib.Dec.{eqb}
 use lib.ListN.{length, length-append}
@@ -39,9 +39,6 @@ four_bits_small false false true false = omega arith
 four_bits_small false false false true = omega arith
 four_bits_small false false false false = omega arith
 
-pub four_bits_whole : (a b c d : Bool) → four_bits a b c d % 16 ≡ four_bits a b c d
-four_bits_whole a b c d = omega (arith, four_bits_small a b c d)
-
 -- ---- How long it is
 
 pub levels_long : (m : Moment) → length (levels_of m) ≡ level_digits
@@ -72,13 +69,6 @@ one_line m = append-nil (picture_line m)
 pub two_lines : (m n : Moment) → lines_for (m ∷ n ∷ []) ≡ picture_line m ++ picture_line n
 unfolding lines_for
 two_lines m n = ap (λ (l : List ℕ). picture_line m ++ l) (append-nil (picture_line n))
-
-pub one_put : (out out' : List ℕ) (written : ℕ) (m n : Moment) → m ≡ n → (written ≡ picture_length) × (out' ≡ sets out 0 (picture_line m))
-    → (written ≡ length (lines_for (n ∷ []))) × (out' ≡ sets out 0 (lines_for (n ∷ [])))
-one_put out out' written m n same put = rw (one_line n) (
-  put.0 ∙ sym (line_long n),
-  put.1 ∙ ap (λ (l : Moment). sets out 0 (picture_line l)) same,
-)
 
 pub two_long : (m n : Moment) → length (lines_for (m ∷ n ∷ [])) ≡ picture_length + picture_length
 two_long m n = ap length (two_lines m n) ∙ omega (arith, length-append (picture_line m) (picture_line n), line_long m, line_long n)

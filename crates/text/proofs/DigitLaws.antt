@@ -1,21 +1,19 @@
 -- Digits without a branch; numbers digit by digit.
 use mathlib.Core.Path.{◌≡◌, refl, sym, ap, ◌∙◌}
 use mathlib.Core.Logic.{◌⊎◌, inl, inr, ⊎_elim}
-use mathlib.Core.Bool.{Bool, true, false, cond, not, ◌&&◌, ◌||◌, false≢true}
+use mathlib.Core.Bool.{Bool, true, false, cond, ◌&&◌, false≢true}
 use mathlib.Core.List.{List, [], ◌∷◌, map}
-use Prim.Native.Nat.{ℕ, zero, suc, ◌+◌, ◌*◌, ◌-◌, ◌/◌, ◌%◌, ◌^◌, ◌<◌, ◌≤◌}
+use Prim.Native.Nat.{ℕ, zero, suc, ◌+◌, ◌*◌, ◌-◌, ◌/◌, ◌%◌, ◌<◌, ◌≤◌}
 use native.Mathlib.Omega.{arith}
-use lib.Dec.{eqb, leb, ltb}
+use lib.Dec.{leb}
 use lib.ListN.{length, get_or, take, drop, length-append, length-drop}
 use lib.Seq.{drop-cons, length-take-le}
 use Rattle.std.proofs.lemmas.Grind.{same_number_lists}
 use Rattle.std.proofs.lemmas.List.{length-map, get_or-map, get_or-take, get_or-drop}
-use borrow.Author.Tests.{ltb-true, ltb-false, leb-true, leb-false, le-leb, lt-leb}
-use Rattle.words.specs.Below.{all_below}
+use borrow.Author.Tests.{leb-true, leb-false, le-leb, lt-leb}
 use Rattle.words.specs.Among.{every_listed}
 use Rattle.words.specs.Parts.{Sized}
-use Rattle.words.proofs.BelowLaws.{same_tests_below}
-use Rattle.words.proofs.TestLaws.{true_or_false, either_of, neither_of, then_pick, else_pick, both_of}
+use Rattle.words.proofs.TestLaws.{true_or_false, either_of, then_pick, else_pick, both_of}
 use Rattle.words.proofs.ListLaws.{every_at}
 use Rattle.text.specs.Digits.{is_digit, value_of, digit_of, number_after, number_of, digits_of, in_digits}
 use Rattle.text.specs.Frames.{digits_from}
@@ -100,20 +98,6 @@ six_digits at line h =
     ∙ four_more _ (at + 2) line (omega (arith, h))
     ∙ omega (arith, four_digits (at + 2) line (omega (arith, h)))
 
--- a byte in two digits
-pub digits_two : (n : ℕ) → digits_of 2 n ≡ digit_of (n / 16 % 16) ∷ digit_of (n % 16) ∷ []
-unfolding digits_of
-digits_two n = refl
-
-pub small_two : (at : ℕ) (line : List ℕ) → at + 2 ≤ length line → every_listed is_digit line ≡ true → number_of (digits_from at 2 line) < 256
-small_two at line h e =
-    omega (
-      arith,
-      two_digits at line h,
-      value_small (get_or line at 0) (every_at is_digit line e at (omega (arith, h))),
-      value_small (get_or line (at + 1) 0) (every_at is_digit line e (at + 1) (omega (arith, h))),
-    )
-
 pub digits_long : (count n : ℕ) → length (digits_of count n) ≡ count
 unfolding digits_of
 digits_long zero n = refl
@@ -141,36 +125,3 @@ pages_from line pages at count long within each =
     each k here
     ∙ ap value_of (sym (get_or-drop at line k 0) ∙ sym (get_or-take count (drop at line) k 0 here))
     ∙ sym (get_or-map value_of digits k 0 0 (omega (arith, here, so_many))))
-
--- ---- Which bytes are digits, by a bit for each
-
-each_bit : all_below (λ k. cond (eqb (0x7E03FF / 2 ^ k % 2) 1) (is_digit (0x30 + k)) (not (is_digit (0x30 + k)))) 23 ≡ true
-unfolding all_below
-each_bit = refl
-
-pub digit_bit : (b : ℕ) → 0x30 ≤ b → b ≤ 0x46 → eqb (0x7E03FF / 2 ^ (b - 0x30) % 2) 1 ≡ is_digit b
-digit_bit b low high =
-    let place : 0x30 + (b - 0x30) ≡ b = omega (arith, low) in
-    same_tests_below (λ k. eqb (0x7E03FF / 2 ^ k % 2) 1) (λ k. is_digit (0x30 + k)) 23 each_bit (b - 0x30) (omega (arith, low, high))
-    ∙ ap (λ (k : ℕ). is_digit k) place
-
--- the code asks first whether a byte is among those
-pub within : (b : ℕ) → (ltb b 0x30 || ltb 0x46 b) ≡ false → (0x30 ≤ b) × (b ≤ 0x46)
-within b e = let h = neither_of (ltb b 0x30) (ltb 0x46 b) e in (ltb-false b 0x30 h.0, ltb-false 0x46 b h.1)
-
-pub outside : (b : ℕ) → (ltb b 0x30 || ltb 0x46 b) ≡ true → is_digit b ≡ false
-outside b far =
-    ⊎_elim
-    (λ (is : is_digit b ≡ true).
-    absurd (⊎_elim
-    (λ (below : ltb b 0x30 ≡ true). not_both below (⊎_elim (λ low. low.0) (λ high. omega (arith, high.0)) (digit_kinds b is)))
-    (λ (above : ltb 0x46 b ≡ true). not_above above (⊎_elim (λ low. omega (arith, low.1)) (λ high. high.1) (digit_kinds b is)))
-    (either_of (ltb b 0x30) (ltb 0x46 b) far)))
-    (λ none. none)
-    (true_or_false (is_digit b))
-  where
-    not_both : ltb b 0x30 ≡ true → 0x30 ≤ b → ⊥
-    not_both below h = omega (arith, ltb-true b 0x30 below, h)
-
-    not_above : ltb 0x46 b ≡ true → b ≤ 0x46 → ⊥
-    not_above above h = omega (arith, ltb-true 0x46 b above, h)

@@ -4,7 +4,7 @@ use mathlib.Core.Logic.{◌⊎◌, inl, inr, ⊎_elim}
 use mathlib.Core.Bool.{Bool, true, false, cond, not, false≢true}
 use mathlib.Core.List.{List}
 use Prim.Native.Nat.{ℕ, ◌+◌, ◌-◌, ◌<◌, ◌≤◌}
-use native.Mathlib.Decide.{dec_lt, ℕ_discrete}
+use native.Mathlib.Decide.{dec_lt}
 use native.Mathlib.Omega.{arith}
 use lib.Dec.{eqb}
 use lib.ListN.{length, get_or}
@@ -38,17 +38,6 @@ DigitsBefore line place = (k : ℕ) → k < place → is_digit (get_or line k 0)
 
 pub leading_digits_holds : (line : List ℕ) → DigitsBefore line (leading_digits line)
 leading_digits_holds line k h = not-false _ (least_first (spoils line) (length line) k h)
-
--- byte by byte
-pub none_before : (line : List ℕ) → DigitsBefore line 0
-none_before line k h = absurd (omega (arith, h))
-
-pub one_before : (line : List ℕ) (place : ℕ) → DigitsBefore line place → is_digit (get_or line place 0) ≡ true → DigitsBefore line (place + 1)
-one_before line place before here k h = go (ℕ_discrete k place)
-  where
-    go : Dec (k ≡ place) → is_digit (get_or line k 0) ≡ true
-    go (yes e) = ap (λ (n : ℕ). is_digit (get_or line n 0)) e ∙ here
-    go (no other) = before k (omega (arith, h, other))
 
 -- the first that is none
 pub leading_at : (line : List ℕ) (place : ℕ) → place < length line → DigitsBefore line place → is_digit (get_or line place 0) ≡ false
@@ -165,16 +154,6 @@ by_fault count line P right size character = go (eqb (length line) count) refl (
     go true e true a = right (rw (e, a) refl)
     go true e false a = character (eqb-true (length line) count e) (first_wrong line a)
     go false e all a = size (eqb-false (length line) count e)
-
--- a line without a number is right
-pub faultless : (count : ℕ) (line : List ℕ) → (fault_of count line).refusal ≡ accepted → is_digits count line ≡ true
-faultless count line =
-    by_fault count line (λ f. f.refusal ≡ accepted → is_digits count line ≡ true) (λ right e. right) (λ other e. absurd (omega (arith, e)))
-    (λ size first e. absurd (omega (arith, e)))
-
-pub faulty : (count : ℕ) (line : List ℕ) → ((fault_of count line).refusal ≡ accepted → ⊥) → is_digits count line ≡ false
-faulty count line some =
-    ⊎_elim (λ right. absurd (some (ap number (no_fault count line right)))) (λ wrong. wrong) (true_or_false (is_digits count line))
 
 -- a line that isn't right has a number
 pub some_fault : (count : ℕ) (line : List ℕ) → is_digits count line ≡ false → eqb (fault_of count line).refusal accepted ≡ false
