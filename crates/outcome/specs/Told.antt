@@ -1,4 +1,4 @@
--- What the code's results tell: the refusal by its number, and what was found, or that there is nothing to be found.
+-- What the code's result tells: the outcome, a refusal by its number.
 use Rattle.std.specs.Prelude.{◌≡◌, Result, Ok, Err}
 use Rattle.bus.specs.Told.{number_of}
 use Rattle.bus.specs.declared.refusal.Refusal.{Refusal}

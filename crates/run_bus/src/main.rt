@@ -64,9 +64,8 @@ fn kinds(rt: &impl Print) -> io::Result<()> {
         0x01, 0x05, 0x06, 0x07, 0x08, 0x09, 0x0A, 0x0B, 0x0C, 0x0D, 0x0F, 0x10,
     ] {
         let status = tables::status(kind);
-        let [free, between, owned] = [FREE, TRANSFER_ONE, OWNED].map(|phase| tables::control(
-            phase, kind,
-        ));
+        let phases = [FREE, TRANSFER_ONE, OWNED];
+        let [free, between, owned] = phases.map(|phase| tables::control(phase, kind));
         let memory_write = u8::from(tables::mwrt(free, status));
         show_row(rt, &[kind, status, memory_write, free, between, owned])?;
     }
@@ -77,15 +76,8 @@ fn kinds(rt: &impl Print) -> io::Result<()> {
 
 // Phase, granted card, lines and signals, as the answer lines have them.
 fn show_bus(rt: &impl Print, bus: Bus) -> io::Result<()> {
-    show_row(
-        rt,
-        &[
-            bus.phase,
-            bus.granted,
-            bus.lines(),
-            tables::signals(bus.phase),
-        ],
-    )
+    let Bus { phase, granted, .. } = bus;
+    show_row(rt, &[phase, granted, bus.lines(), tables::signals(phase)])
 }
 
 fn chassis(fitted: u16, pages: [u8; 16]) -> Chassis {
