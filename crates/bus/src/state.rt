@@ -1,6 +1,9 @@
 // The state of the bus, and what it is set up with.
-ghost use Rattle.std.specs.Prelude.{◌≡◌};
+ghost use Rattle.std.specs.Prelude.{◌≡◌, eqb};
+ghost use Rattle.phases.specs.Phases.{number_of_phase};
 ghost use Rattle.bus.specs.State.{chassis_of};
+
+use phases::Phase;
 
 // What setup is given. No event changes it.
 #[derive(Clone, Copy)]
@@ -22,6 +25,7 @@ pub const EMPTY_CHASSIS: Chassis = Chassis {
 pub struct Bus {
     pub fitted: u16,
     pub pages: [u8; 16],
+    // Kept: a number, since a state may have any here, and one that no phase has is told apart as senseless.
     pub phase: u8,
     // The contenders: bit n for card n.
     pub contenders: u16,
@@ -37,5 +41,11 @@ impl Bus {
     {
         let Bus { fitted, pages, .. } = self;
         Chassis { fitted, pages }
+    }
+
+    pub fn is_in(self, phase: Phase) -> bool
+        ensures { result ≡ eqb self.phase (number_of_phase phase) }
+    {
+        self.phase == u8::from(phase)
     }
 }

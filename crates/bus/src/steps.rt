@@ -1,6 +1,7 @@
 // What the cards and the permanent master do to the bus, a method each. Where its step may not be taken, a method hands the state back as given;
 // whether the state makes sense is for the caller to ask.
 ghost use Rattle.std.specs.Prelude.{◌≡◌};
+ghost use Rattle.phases.specs.Phases.{number_of_phase};
 ghost use Rattle.bus.specs.Steps.{
   may_request,
   requested,
@@ -20,7 +21,7 @@ ghost use Rattle.bus.specs.Steps.{
 use crate::numbers::*;
 use crate::state::Bus;
 use cards::{card_in, is_within, look_at, some_card};
-use phases::numbers::*;
+use phases::Phase;
 
 impl Bus {
     // These cards ask for the bus together.
@@ -28,7 +29,7 @@ impl Bus {
         ensures { result ≡ requested self cards }
     {
         if self.may_request(cards) {
-            self.phase = ARBITRATION;
+            self.phase = Phase::Arbitration.into();
             self.contenders = cards;
             self.driven = [0; 16];
         }
@@ -38,7 +39,7 @@ impl Bus {
     fn may_request(self, cards: u16) -> bool
         ensures { result ≡ may_request self cards }
     {
-        self.phase == FREE && some_card(cards) && is_within(cards, self.fitted)
+        self.is_in(Phase::Free) && some_card(cards) && is_within(cards, self.fitted)
     }
 
     // A contender looks at the lines, and sets what it drives.
@@ -55,7 +56,7 @@ impl Bus {
     fn may_look(self, card: u8) -> bool
         ensures { result ≡ may_look self card }
     {
-        self.phase == ARBITRATION && card_in(self.contenders, card)
+        self.is_in(Phase::Arbitration) && card_in(self.contenders, card)
     }
 
     // The permanent master answers HOLD, and the bus goes to the card that the settled lines name.
@@ -64,7 +65,7 @@ impl Bus {
     {
         if self.may_acknowledge() {
             self.granted = self.lines();
-            self.phase = GRANTED;
+            self.phase = Phase::Granted.into();
             self.contenders = 0; // the others go idle
             self.driven = [0; 16];
         }
@@ -74,58 +75,58 @@ impl Bus {
     fn may_acknowledge(self) -> bool
         ensures { result ≡ may_acknowledge self }
     {
-        self.phase == ARBITRATION && some_card(self.contenders) && self.is_settled()
+        self.is_in(Phase::Arbitration) && some_card(self.contenders) && self.is_settled()
     }
 
     pub fn begin_transfer_one(self, card: u8) -> Bus
         ensures { result ≡ transfer_one_begun self card }
     {
-        self.transfer(GRANTED, TRANSFER_ONE, card)
+        self.transfer(Phase::Granted, Phase::TransferOne, card)
     }
 
     pub fn take_bus(self, card: u8) -> Bus
         ensures { result ≡ bus_taken self card }
     {
-        self.transfer(TRANSFER_ONE, OWNED, card)
+        self.transfer(Phase::TransferOne, Phase::Owned, card)
     }
 
     pub fn begin_transfer_two(self, card: u8) -> Bus
         ensures { result ≡ transfer_two_begun self card }
     {
-        self.transfer(OWNED, TRANSFER_TWO, card)
+        self.transfer(Phase::Owned, Phase::TransferTwo, card)
     }
 
     pub fn give_back(mut self, card: u8) -> Bus
         ensures { result ≡ given_back self card }
     {
-        if self.may_transfer(TRANSFER_TWO, card) {
-            self.phase = FREE; // pHLDA falls with it (house)
+        if self.may_transfer(Phase::TransferTwo, card) {
+            self.phase = Phase::Free.into(); // pHLDA falls with it (house)
             self.granted = NOBODY;
         }
         self
     }
 
     // The granted card leads from one phase to another.
-    fn transfer(mut self, from: u8, to: u8, card: u8) -> Bus
-        ensures { result ≡ transferred self from to card }
+    fn transfer(mut self, from: Phase, to: Phase, card: u8) -> Bus
+        ensures { result ≡ transferred self (number_of_phase from) (number_of_phase to) card }
     {
         if self.may_transfer(from, card) {
-            self.phase = to;
+            self.phase = to.into();
         }
         self
     }
 
-    fn may_transfer(self, from: u8, card: u8) -> bool
-        ensures { result ≡ may_transfer self from card }
+    fn may_transfer(self, from: Phase, card: u8) -> bool
+        ensures { result ≡ may_transfer self (number_of_phase from) card }
     {
-        self.phase == from && self.granted == card
+        self.is_in(from) && self.granted == card
     }
 
     // Fitted cards and pages stay; contention and grant end.
     pub fn reset(mut self) -> Bus
         ensures { result ≡ reset_to self }
     {
-        self.phase = FREE;
+        self.phase = Phase::Free.into();
         self.contenders = 0;
         self.driven = [0; 16];
         self.granted = NOBODY;

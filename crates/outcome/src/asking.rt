@@ -10,7 +10,7 @@ use crate::figures::{Loss, Outcome};
 use bus::numbers::NOBODY;
 use bus::{Bus, Refusal};
 use cards::card_in;
-use phases::numbers::ARBITRATION;
+use phases::Phase;
 use sense::makes_sense;
 
 // The state is only read.
@@ -33,7 +33,7 @@ fn check_asked(bus: Bus, card: u8) -> Result<(), Refusal>
         Err(Refusal::Malformed)
     } else if !card_in(bus.fitted, card) {
         Err(Refusal::NotFitted)
-    } else if bus.phase != ARBITRATION {
+    } else if !bus.is_in(Phase::Arbitration) {
         Err(Refusal::WrongPhase)
     } else if !card_in(bus.contenders, card) {
         Err(Refusal::NotItsTurn)

@@ -1,6 +1,7 @@
 -- Read in this order: the phases and the kinds of events, by number and by name; the signals true in each phase; who drives which lines, by number
 -- and by name; status by kind of cycle; control outputs; what is promised; the tables, entry by entry.
 pub mod Phase
+pub mod Phases
 pub mod Kind
 pub mod Kinds
 pub mod Signal

@@ -3,7 +3,9 @@
 
 mod drivers;
 mod kinds;
+mod phases;
 pub mod numbers;
 
 pub use drivers::Driver;
 pub use kinds::{Kind, UnknownKind};
+pub use phases::{Phase, UnknownPhase};

@@ -10,7 +10,7 @@ ghost use Rattle.bus.specs.Told.{set_up};
 use bus::numbers::*;
 use bus::{Bus, Chassis, Refusal};
 use cards::{all_at_most, card_in, counted, is_within, some_card};
-use phases::numbers::*;
+use phases::Phase;
 
 pub fn setup(chassis: Chassis) -> Result<Bus, Refusal>
     ensures { set_up result ≡ setup_of chassis }
@@ -30,7 +30,7 @@ pub fn freed(chassis: Chassis) -> Bus
     Bus {
         fitted,
         pages,
-        phase: FREE,
+        phase: Phase::Free.into(),
         contenders: 0,
         driven: [0; 16],
         granted: NOBODY,
@@ -53,7 +53,7 @@ pub fn makes_sense(bus: Bus) -> bool
 fn standing_fits(bus: Bus) -> bool
     ensures { result ≡ standing_fits bus }
 {
-    bus.phase <= LAST_PHASE
+    Phase::try_from(bus.phase).is_ok()
         && contention_fits(bus)
         && driving_fits(bus.contenders, bus.driven)
         && grant_fits(bus)
@@ -62,16 +62,17 @@ fn standing_fits(bus: Bus) -> bool
 fn contention_fits(bus: Bus) -> bool
     ensures { result ≡ contention_fits bus }
 {
-    is_within(bus.contenders, bus.fitted) && some_card(bus.contenders) == (bus.phase == ARBITRATION)
+    is_within(bus.contenders, bus.fitted) && some_card(bus.contenders) == bus.is_in(Phase::Arbitration)
 }
 
 fn grant_fits(bus: Bus) -> bool
     ensures { result ≡ grant_fits bus }
 {
-    if (GRANTED..=TRANSFER_TWO).contains(&bus.phase) {
-        card_in(bus.fitted, bus.granted)
-    } else {
-        bus.granted == NOBODY
+    match Phase::try_from(bus.phase) {
+        Ok(Phase::Granted | Phase::TransferOne | Phase::Owned | Phase::TransferTwo) => {
+            card_in(bus.fitted, bus.granted)
+        }
+        _ => bus.granted == NOBODY,
     }
 }
 

@@ -8,7 +8,7 @@ ghost use Rattle.bus.specs.Told.{answered, settlement};
 
 use bus::{Bus, Refusal, Settled};
 use cards::{all_at_most, all_in};
-use phases::numbers::*;
+use phases::Phase;
 use sense::makes_sense;
 
 pub fn settle(bus: Bus, cards: &[u8]) -> Result<Settled, Refusal>
@@ -29,7 +29,7 @@ fn check_list(bus: Bus, cards: &[u8]) -> Result<(), Refusal>
         Err(Refusal::Malformed)
     } else if !all_in(bus.fitted, cards) {
         Err(Refusal::NotFitted)
-    } else if bus.phase != ARBITRATION {
+    } else if !bus.is_in(Phase::Arbitration) {
         Err(Refusal::WrongPhase)
     } else if !all_in(bus.contenders, cards) {
         Err(Refusal::NotItsTurn)
