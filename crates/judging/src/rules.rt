@@ -5,22 +5,21 @@ ghost use Rattle.judgement.specs.Told.{verdict_in};
 ghost use Rattle.judging.specs.Turns.{ruled_of};
 
 use bus::{Refusal, Step};
-use phases::Kind;
-use phases::numbers::*;
+use phases::{Kind, Phase};
 
 // 06, or the step of the kind.
 #[tactic(auto, unfolding(crate::specs::Turns::ruled_of, words::specs::Among::beside))]
 pub fn ruled(kind: Kind, phase: u8) -> Result<Step, Refusal>
     ensures { verdict_in result ≡ ruled_of (number_of_kind kind) phase }
 {
-    match (kind, phase) {
-        (Kind::Request, FREE) => Ok(Step::Request),
-        (Kind::Look, ARBITRATION) => Ok(Step::Look),
-        (Kind::Acknowledge, ARBITRATION) => Ok(Step::Acknowledge),
-        (Kind::BeginTransferOne, GRANTED) => Ok(Step::BeginTransferOne),
-        (Kind::TakeBus, TRANSFER_ONE) => Ok(Step::TakeBus),
-        (Kind::BeginTransferTwo, OWNED) => Ok(Step::BeginTransferTwo),
-        (Kind::GiveBack, TRANSFER_TWO) => Ok(Step::GiveBack),
+    match (kind, Phase::try_from(phase)) {
+        (Kind::Request, Ok(Phase::Free)) => Ok(Step::Request),
+        (Kind::Look, Ok(Phase::Arbitration)) => Ok(Step::Look),
+        (Kind::Acknowledge, Ok(Phase::Arbitration)) => Ok(Step::Acknowledge),
+        (Kind::BeginTransferOne, Ok(Phase::Granted)) => Ok(Step::BeginTransferOne),
+        (Kind::TakeBus, Ok(Phase::TransferOne)) => Ok(Step::TakeBus),
+        (Kind::BeginTransferTwo, Ok(Phase::Owned)) => Ok(Step::BeginTransferTwo),
+        (Kind::GiveBack, Ok(Phase::TransferTwo)) => Ok(Step::GiveBack),
         (Kind::Reset, _) => Ok(Step::Reset),
         (
             Kind::ByteRead
@@ -30,7 +29,7 @@ pub fn ruled(kind: Kind, phase: u8) -> Result<Step, Refusal>
             | Kind::WordWrite
             | Kind::Input
             | Kind::Output,
-            FREE | ARBITRATION | OWNED,
+            Ok(Phase::Free | Phase::Arbitration | Phase::Owned),
         ) => Ok(Step::Cycle),
         _ => Err(Refusal::WrongPhase),
     }

@@ -10,8 +10,7 @@ use crate::rules::ruled;
 use bus::{Bus, Refusal, Step};
 use cards::card_in;
 use judgement::{Event, PERMANENT_MASTER};
-use phases::Kind;
-use phases::numbers::OWNED;
+use phases::{Kind, Phase};
 
 // 03, 04 and 05, and then what kind and phase say.
 #[tactic(auto, using(crate::proofs::TurnLaws::sound_chain))]
@@ -72,7 +71,7 @@ fn refuse_if(applies: bool, refusal: Refusal) -> Result<(), Refusal>
 fn master_of(bus: Bus) -> u8
     ensures { result ≡ master_of bus }
 {
-    if bus.phase == OWNED {
+    if bus.is_in(Phase::Owned) {
         bus.granted
     } else {
         PERMANENT_MASTER

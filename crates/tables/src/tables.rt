@@ -7,7 +7,7 @@ ghost use Rattle.phases.specs.Drivers.{number_of_driver};
 ghost use Rattle.phases.specs.Status.{status_of};
 ghost use Rattle.phases.specs.Control.{strobe_of, control_in, is_mwrt};
 
-use phases::Driver;
+use phases::{Driver, Phase};
 use phases::numbers::*;
 
 // What stands on the lines in a phase: who drives the address, status, data-out and control lines, and the true signals.
@@ -167,8 +167,8 @@ pub fn control(phase: u8, kind: u8) -> u8
 fn strobe_in(phase: u8, kind: u8) -> u8
     ensures { result ≡ cond (has_cycles phase) (strobe_of kind) 0 }
 {
-    match phase {
-        FREE | ARBITRATION | OWNED => strobe(kind),
+    match Phase::try_from(phase) {
+        Ok(Phase::Free | Phase::Arbitration | Phase::Owned) => strobe(kind),
         _ => 0,
     }
 }
