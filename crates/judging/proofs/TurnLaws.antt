@@ -71,7 +71,7 @@ module _ (bus : Bus) (event : Event) where
       step = Takes (row_of event.kind).step
 
   -- 03, where no kind has the event's number
-  pub unknown_refused : (event.kind < Number.request) ⊎ (Number.last < event.kind) → Refused Refusal.malformed ≡ sound_verdict bus event
+  pub unknown_refused : (event.kind < Number.request) ⊎ (Number.last < event.kind) → sound_verdict bus event ≡ Refused Refusal.malformed
   unknown_refused unknown = rw (sound_chain, no_other_has event.kind unknown)
 
   -- what the step of a row asks for is what the row asks for
@@ -92,9 +92,8 @@ module _ (bus : Bus) (event : Event) where
   asked_after (Refused number) = Refused number
   asked_after (Takes step) = asked_of step bus event
 
-  pub turn_asks : asked_after (ruled_of event.kind bus.phase) ≡ turn_of bus event
+  pub turn_asks : turn_of bus event ≡ asked_after (ruled_of event.kind bus.phase)
   unfolding ruled_of AskedAlike
   turn_asks =
-      ⊎_elim (λ allowed. rw allowed (asked_alike event.kind refl allowed ∙ sym (turn_chain ∙ rw allowed)))
-      (λ wrong. rw wrong (sym (turn_chain ∙ rw wrong)))
-      (true_or_false ((row_of event.kind).allows bus.phase))
+      turn_chain
+      ∙ ⊎_elim (λ allowed. rw allowed (sym (asked_alike event.kind refl allowed))) (λ wrong. rw wrong) (true_or_false ((row_of event.kind).allows bus.phase))

@@ -13,7 +13,7 @@ use judgement::{Event, PERMANENT_MASTER};
 use phases::{Kind, Phase};
 
 // 03, 04 and 05, and then what kind and phase say.
-#[tactic(auto, using(crate::proofs::TurnLaws::sound_chain))]
+#[tactic(auto, using(crate::proofs::TurnLaws::sound_chain, crate::proofs::TurnLaws::unknown_refused))]
 pub fn judge(bus: Bus, event: Event) -> Result<Step, Refusal>
     ensures { verdict_in result ≡ sound_verdict bus event }
 {
@@ -28,6 +28,7 @@ pub fn judge(bus: Bus, event: Event) -> Result<Step, Refusal>
 }
 
 // From 06 on.
+#[tactic(auto, using(crate::proofs::TurnLaws::turn_asks))]
 fn turn(bus: Bus, known: KnownEvent) -> Result<Step, Refusal>
     ensures { verdict_in result ≡ turn_of bus known.event }
 {
