@@ -16,21 +16,6 @@ pub const TRANSFER_TWO: u8 = 5;
 
 pub const LAST_PHASE: u8 = TRANSFER_TWO;
 
-// Kinds of events.
-pub const BYTE_READ: u8 = 0x06;
-
-pub const OPCODE_FETCH: u8 = 0x07;
-
-pub const BYTE_WRITE: u8 = 0x08;
-
-pub const WORD_READ: u8 = 0x09;
-
-pub const WORD_WRITE: u8 = 0x0A;
-
-pub const INPUT: u8 = 0x0B;
-
-pub const OUTPUT: u8 = 0x0C;
-
 // Signals that go by the phase.
 pub const HOLD: u8 = 0x01;
 
