@@ -1,7 +1,6 @@
 // The numbers of phases, signals, status and control outputs, as constants; specs/ has a definition for each.
 
-// Phases.
-// Kept: numbers and no enum, since a state's phase may be any number (`bus::Bus`, and the state's byte in the C interface), and an answer shows it.
+// Phases, beside their names (`Phase`): the phase in a state may be any number.
 pub const FREE: u8 = 0;
 
 pub const ARBITRATION: u8 = 1;
