@@ -15,6 +15,7 @@ pub struct Moment {
     pub dout: u8,
     pub din: u8,
     // A cycle is on: address and status are driven. Whether DO is driven, and whether DI is.
+    // Kept: definitions name these flags, `BusLine.is_driven`, `Moments.moment_of`, and the theorem `AddressOnPins`.
     pub cyclic: bool,
     pub doutDriven: bool,
     pub dinDriven: bool,

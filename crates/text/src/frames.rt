@@ -2,7 +2,7 @@
 use crate::fault::Fault;
 
 // The byte that ends a line.
-pub const NEWLINE: u8 = 0x0A;
+pub const NEWLINE: u8 = b'\n';
 
 // The event line, and its digits.
 pub const KIND_AT: usize = 0;
