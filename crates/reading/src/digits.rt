@@ -67,10 +67,7 @@ impl<'a, const N: usize> Digits<'a, N> {
         let Ok(line) = line.try_into() else {
             return Err(Fault::WrongLength);
         };
-        match Digits::of(line) {
-            Ok(digits) => Ok(digits),
-            Err(leading) => Err(wrong_behind(leading)),
-        }
+        Digits::of(line).map_err(wrong_behind)
     }
 
     pub fn value(self, at: usize) -> u8
