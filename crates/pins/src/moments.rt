@@ -1,4 +1,5 @@
 // What a line of a picture shows, and what is read from one.
+use phases::Phase;
 
 // What stands on the bus at the moment that a line shows. Where something isn't driven its number says nothing.
 #[derive(Clone, Copy)]
@@ -25,7 +26,7 @@ pub struct Moment {
 #[derive(Clone, Copy, Debug, PartialEq, Eq)]
 pub struct Seen {
     // None where no phase has the signals.
-    pub phase: Option<u8>,
+    pub phase: Option<Phase>,
     pub signals: u8,
     pub lines: u8,
 }

@@ -1,24 +1,34 @@
 // A line of a picture, read again: what its pins tell of phase, signals and priority lines.
-ghost use Rattle.std.specs.Prelude.{cond, ◌≡◌, ◌<◌, ◌≤◌, eqb, IfOk, IfSome};
-ghost use Rattle.std.specs.List.{find, range_with_len};
-ghost use Rattle.phases.specs.Phase.{transfer_two};
+ghost use Rattle.std.specs.Prelude.{cond, ◌≡◌, ◌<◌, ◌≤◌, eqb};
+ghost use Rattle.std.specs.List.{find};
+ghost use Rattle.phases.specs.Phases.{number_of_phase};
 ghost use Rattle.phases.specs.Signal.{signals_in};
 ghost use Rattle.pins.specs.ReadAgain.{bit_from, true_on, signals_on, priority_lines_on, phase_with, picture_in};
 ghost use Rattle.pins.specs.Told.{phase_told, picture_told};
 
 use crate::digits::Digits;
+use phases::Phase;
 use phases::numbers::*;
 use pins::Seen;
 use pins::sizes::*;
 use tables::signals;
 use text::Fault;
 
+// In their order.
+const PHASES: [Phase; 6] = [
+    Phase::Free,
+    Phase::Arbitration,
+    Phase::Granted,
+    Phase::TransferOne,
+    Phase::Owned,
+    Phase::TransferTwo,
+];
+
 type Picture<'a> = Digits<'a, PICTURE_DIGITS>;
 
 #[tactic(auto, unfolding(pins::specs::ReadAgain::picture_in))]
 pub fn picture_line(line: &[u8]) -> Result<Seen, Fault>
-    ensures told { picture_told result ≡ picture_in line.now }
-    ensures phase { IfOk result (λ on. IfSome on.phase (λ phase. phase ≤ transfer_two)) }
+    ensures { picture_told result ≡ picture_in line.now }
 {
     let picture = Digits::read(line)?;
     let signals = signals_on(picture);
@@ -79,15 +89,17 @@ fn bit_from(picture: Picture, at: usize, pin: usize) -> bool
 }
 
 // Those of a word go by the cycle.
-fn phase_with(signals: u8) -> Option<u8>
-    ensures is { phase_told result ≡ phase_with signals }
-    ensures known { IfSome result (λ phase. phase ≤ transfer_two) }
+fn phase_with(signals: u8) -> Option<Phase>
+    ensures { phase_told result ≡ phase_with signals }
 {
     phase_where(signals % SIXTN)
 }
 
-fn phase_where(standing: u8) -> Option<u8>
-    ensures { result ≡ find (λ phase. eqb standing (signals_in phase)) (range_with_len 0 6) }
+fn phase_where(standing: u8) -> Option<Phase>
+    ensures { result ≡ find (λ phase. eqb standing (signals_in (number_of_phase phase))) PHASES }
 {
-    (FREE..LAST_PHASE + 1).find(|phase| standing == signals(*phase))
+    PHASES
+        .iter()
+        .copied()
+        .find(|phase| standing == signals(u8::from(*phase)))
 }
