@@ -1,10 +1,10 @@
-// The phases, the kinds of events and what stands on the lines, by number and by name.
+// The phases, the kinds of events and who drives the lines, by name, and what stands on them, by weight.
 #![tactic(auto)]
 
 mod drivers;
 mod kinds;
-mod phases;
 pub mod numbers;
+mod phases;
 
 pub use drivers::Driver;
 pub use kinds::{Kind, UnknownKind};

@@ -1,19 +1,4 @@
-// The numbers of phases, signals, status and control outputs, as constants; specs/ has a definition for each.
-
-// Phases, beside their names (`Phase`): the phase in a state may be any number.
-pub const FREE: u8 = 0;
-
-pub const ARBITRATION: u8 = 1;
-
-pub const GRANTED: u8 = 2;
-
-pub const TRANSFER_ONE: u8 = 3;
-
-pub const OWNED: u8 = 4;
-
-pub const TRANSFER_TWO: u8 = 5;
-
-pub const LAST_PHASE: u8 = TRANSFER_TWO;
+// The weights of signals, status and control outputs, as constants; specs/ has a definition for each.
 
 // Signals that go by the phase.
 pub const HOLD: u8 = 0x01;

@@ -4,6 +4,7 @@
 use bus::numbers::{ACCEPTED, NOBODY};
 use bus::{Bus, Chassis, EMPTY_CHASSIS, Step};
 use memory::{EIGHT_BIT_PAGE, Moved, SIXTEEN_BIT_PAGE, Slave};
+use phases::Phase;
 use phases::numbers::*;
 use sense::{freed, makes_sense, setup};
 use settling::settle;
@@ -46,7 +47,7 @@ fn drivers_and_signals(rt: &impl Print) -> io::Result<()> {
     println!(rt;
         "phase, drivers of address, status, data-out and control, signals, control outputs"
     )?;
-    for phase in 0..=LAST_PHASE + 1 {
+    for phase in 0..=6 {
         print!(rt; "{phase:02X}")?;
         for group in 0..4 {
             print!(rt; "{:02X}", u8::from(tables::driver(phase, group)))?;
@@ -64,8 +65,8 @@ fn kinds(rt: &impl Print) -> io::Result<()> {
         0x01, 0x05, 0x06, 0x07, 0x08, 0x09, 0x0A, 0x0B, 0x0C, 0x0D, 0x0F, 0x10,
     ] {
         let status = tables::status(kind);
-        let phases = [FREE, TRANSFER_ONE, OWNED];
-        let [free, between, owned] = phases.map(|phase| tables::control(phase, kind));
+        let phases = [Phase::Free, Phase::TransferOne, Phase::Owned];
+        let [free, between, owned] = phases.map(|phase| tables::control(phase.into(), kind));
         let memory_write = u8::from(tables::mwrt(free, status));
         show_row(rt, &[kind, status, memory_write, free, between, owned])?;
     }
@@ -140,15 +141,15 @@ fn setups_and_senses(rt: &impl Print) -> io::Result<()> {
         "sense: free, arbitration, owned; a code of 3, no such phase, an unfitted contender, none, one too early, an unfitted grant"
     )?;
     for (code, phase, contenders, granted) in [
-        (2, FREE, 0, NOBODY),
-        (2, ARBITRATION, 0x0008, NOBODY),
-        (2, OWNED, 0, 3),
-        (3, FREE, 0, NOBODY),
-        (2, LAST_PHASE + 1, 0, NOBODY),
-        (2, ARBITRATION, 0x0004, NOBODY),
-        (2, ARBITRATION, 0, NOBODY),
-        (2, FREE, 0x0008, NOBODY),
-        (2, OWNED, 0, 2),
+        (2, 0, 0, NOBODY),
+        (2, 1, 0x0008, NOBODY),
+        (2, 4, 0, 3),
+        (3, 0, 0, NOBODY),
+        (2, 6, 0, NOBODY),
+        (2, 1, 0x0004, NOBODY),
+        (2, 1, 0, NOBODY),
+        (2, 0, 0x0008, NOBODY),
+        (2, 4, 0, 2),
     ] {
         let bus = standing(chassis(0x000A, [code; 16]), phase, contenders, granted);
         print!(rt; "{:02X}", u8::from(makes_sense(bus)))?;
@@ -235,7 +236,7 @@ fn settles(rt: &impl Print) -> io::Result<()> {
 fn refused_settles(rt: &impl Print) -> io::Result<()> {
     println!(rt; "card 0 alone, acknowledged; then settle refused")?;
     show_bus(rt, contending(0x0001, 0x0001).acknowledge())?;
-    let senseless = standing(chassis(0x0003, [3; 16]), ARBITRATION, 0x0002, NOBODY);
+    let senseless = standing(chassis(0x0003, [3; 16]), 1, 0x0002, NOBODY);
     let one = contending(0x0003, 0x0002);
     show_settle(rt, senseless, &[16])?;
     show_settle(rt, one, &[2, 16])?;

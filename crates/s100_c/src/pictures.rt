@@ -43,7 +43,12 @@ pub extern "C" fn s100_read_picture(line: &[u8], seen: &mut [u8]) -> u8
     };
     match picture_line(line) {
         Ok(read) => {
-            *seen = [read.phase.unwrap_or(NO_PHASE), read.signals, read.lines, 0];
+            *seen = [
+                read.phase.map_or(NO_PHASE, u8::from),
+                read.signals,
+                read.lines,
+                0,
+            ];
             ACCEPTED
         }
         Err(fault) => {

@@ -7,8 +7,8 @@ ghost use Rattle.phases.specs.Drivers.{number_of_driver};
 ghost use Rattle.phases.specs.Status.{status_of};
 ghost use Rattle.phases.specs.Control.{strobe_of, control_in, is_mwrt};
 
-use phases::{Driver, Phase};
 use phases::numbers::*;
+use phases::{Driver, Phase};
 
 // What stands on the lines in a phase: who drives the address, status, data-out and control lines, and the true signals.
 #[derive(Clone, Copy)]

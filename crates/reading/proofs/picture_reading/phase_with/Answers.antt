@@ -3,7 +3,7 @@ use mathlib.Core.Path.{◌≡◌, refl, ap, ◌∙◌}
 use mathlib.Core.Bool.{Bool, true, false, cond}
 use Prim.Native.Nat.{ℕ, ◌%◌}
 use lib.Dec.{eqb}
-use Rattle.std.specs.Prelude.{Option, Some, List}
+use Rattle.std.specs.Prelude.{Option, Some}
 use Rattle.std.specs.List.{find}
 use Rattle.words.specs.Among.{beside, who_has}
 use Rattle.phases.specs.Signal.{SIXTN, signal_table, signals_in}
