@@ -2,3 +2,4 @@
 pub mod AsComputed
 pub mod Passed
 pub mod TableLaws
+pub mod ToldLaws
