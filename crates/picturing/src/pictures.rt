@@ -73,12 +73,8 @@ fn put_split(kind: Kind, event: Event, answer: Answer, lines: &mut [u8; MOST_PIC
     ensures put { result ≡ length (lines_for (even_moment event answer ∷ odd_moment event answer ∷ [])) }
     ensures left { lines.new ≡ sets lines.old 0 (lines_for (even_moment event answer ∷ odd_moment event answer ∷ [])) }
 {
-    let Some((first, rest)) = lines.split_first_chunk_mut() else {
-        unreachable!()
-    };
-    let Some(second) = rest.as_mut_array() else {
-        unreachable!()
-    };
+    let (first, rest) = lines.split_first_chunk_mut().unwrap();
+    let second = rest.as_mut_array().unwrap();
     put_line(even_moment(kind, event, answer), first);
     put_line(odd_moment(kind, event, answer), second);
     MOST_PICTURED
@@ -89,10 +85,7 @@ fn put_one(m: Moment, lines: &mut [u8; MOST_PICTURED]) -> usize
     ensures put { result ≡ picture_length }
     ensures left { lines.new ≡ sets lines.old 0 (picture_line m) }
 {
-    let Some(line) = lines.first_chunk_mut() else {
-        unreachable!()
-    };
-    put_line(m, line);
+    put_line(m, lines.first_chunk_mut().unwrap());
     PICTURE_LENGTH
 }
 
@@ -100,19 +93,21 @@ fn put_line(m: Moment, line: &mut [u8; PICTURE_LENGTH])
     requires { m ≡ quieted m }
     ensures { line.new ≡ picture_line m }
 {
-    put_pins(m, line);
-    line[PICTURE_DIGITS] = NEWLINE;
+    let (digits, rest) = line.split_first_chunk_mut().unwrap();
+    put_pins(m, digits);
+    rest[0] = NEWLINE;
 }
 
 // An event that is no cycle is put with less work.
-fn put_pins(m: Moment, line: &mut [u8; PICTURE_LENGTH])
+fn put_pins(m: Moment, digits: &mut [u8; PICTURE_DIGITS])
     requires { m ≡ quieted m }
-    ensures { line.new ≡ sets line.old 0 (picture_of m) }
+    ensures { digits.new ≡ picture_of m }
 {
     if m.cyclic | m.doutDriven | m.dinDriven {
-        put_levels(m, line);
-        put_driven(m, line);
+        let (levels, rest) = digits.split_first_chunk_mut().unwrap();
+        put_levels(m, levels);
+        put_driven(m, rest.as_mut_array().unwrap());
     } else {
-        put_still(m, line);
+        put_still(m, digits);
     }
 }

@@ -1,14 +1,9 @@
 -- The lines of the cards so far stand at the front.
-use Prim.Native.Nat.{ℕ}
-use mathlib.Core.Path.{◌≡◌, refl, ap, ◌∙◌}
+use mathlib.Core.Path.{refl, ap, ◌∙◌}
 use native.Mathlib.Omega.{arith}
-use borrow.Author.Tests.{le-leb}
-use lib.ListN.{length}
-use lib.Seq.{sets, length-take-le}
-use Rattle.words.proofs.TestLaws.{then_pick}
 use Rattle.outcome.specs.Outcomes.{figures_of}
-use Rattle.text.specs.OutcomeLine.{outcomes_below, outcomes_length}
-use Rattle.printing.proofs.LineLaws.{line_next, outcomes_in_place}
+use Rattle.text.specs.OutcomeLine.{outcome_line, outcomes_below}
+use Rattle.printing.proofs.LineLaws.{line_next}
 use Rattle.printing.proofs.outcomes.put_outcomes.Goals as goal
 
 pub loop-card-init : goal.loop-card-init
@@ -17,19 +12,8 @@ loop-card-init c = refl
 
 pub loop-card-preserved : goal.loop-card-preserved
 loop-card-preserved c =
-    let card = c.loop-card.card in
-    let figures = c.of-figures.ensures ∙ ap (figures_of card) c.outcome_for.ensures in
-    rw (c.put_outcome.ensures, figures, c.from.ensures, c.loop-card.invariant) (line_next c.args.bus c.in-Some.lines.now card)
-
-pub returns-clause-put : goal.returns-clause-put
-returns-clause-put c =
-    then_pick 0 (le-leb outcomes_length (length c.args.out.now) (c.in-Some.ensures.variant.0 refl)) refl
-
-pub returns-clause-left : goal.returns-clause-left
-returns-clause-left c =
-    let place = c.args.out.now in
-    let room = c.in-Some.ensures.variant.0 refl in
-    let all : c.loop-card.card ≡ 16 = omega arith in
-    then_pick place (le-leb outcomes_length (length place) room) (
-    outcomes_in_place c.args.bus place c.in-Some.lines.now c.loop-card.lines room (ap length c.in-Some.ensures.cases.same ∙ length-take-le 144 place room)
-    (c.loop-card.invariant ∙ ap (λ (n : ℕ). sets c.in-Some.lines.now 0 (outcomes_below c.args.bus n)) all))
+    let loop = c.loop-card in
+    let line = c.put_outcome.ensures ∙ ap outcome_line (c.of-figures.ensures ∙ ap (figures_of loop.card) c.outcome_for.ensures) in
+    let parts = rw c.unwrap.ensures at c.split_first_chunk_mut.ensures.cases in
+    rw (c.split_at_mut-rest.ensures.front, parts.1, c.split_at_mut-rest.ensures.back, c.from.ensures) (
+    line_next c.args.bus c.args.out.now loop.out loop.card loop.invariant c.put_outcome.new.line c.loop-card-test.true (omega arith) line)
