@@ -1,12 +1,8 @@
 -- A moment with no cycle on: the digits of its picture, written out.
-use mathlib.Core.Path.{◌≡◌, refl, sym, ap, ap₂, ◌∙◌}
+use mathlib.Core.Path.{◌≡◌, refl}
 use mathlib.Core.Bool.{false, not}
-use mathlib.Core.List.{List, [], ◌∷◌, ◌++◌, append_assoc}
-use Prim.Native.Nat.{ℕ, ◌≤◌}
-use native.Mathlib.Omega.{arith}
-use borrow.Rule.Slice.PartMut.{Post-is, put_mid}
-use lib.ListN.{length, take, drop}
-use lib.Seq.{sets, sets-eq}
+use mathlib.Core.List.{List, [], ◌∷◌}
+use Prim.Native.Nat.{ℕ}
 use Rattle.words.specs.Below.{list_below}
 use Rattle.words.specs.Among.{beside}
 use Rattle.phases.specs.Signal.{HOLD, pHLDA, ADSB, SDSB, DODSB, CDSB, SIXTN, is_on}
@@ -18,7 +14,7 @@ use Rattle.pins.specs.declared.moments.Moment.{Moment}
 use Rattle.picturing.specs.Fives.{five_levels}
 
 -- what is driven then
-abbrev still_driven : List ℕ
+abbrev pub still_driven : List ℕ
 still_driven =
     0x30 ∷ 0x30 ∷ 0x30 ∷ 0x34 ∷ 0x36 ∷ 0x36 ∷ 0x43 ∷ 0x30 ∷ 0x30 ∷ 0x30 ∷ 0x30 ∷ 0x30 ∷ 0x30 ∷ 0x33 ∷ 0x39 ∷ 0x30 ∷ 0x31 ∷ 0x30 ∷ 0x35 ∷ 0x43
     ∷ 0x30 ∷ 0x30 ∷ 0x30 ∷ 0x30 ∷ 0x30 ∷ []
@@ -49,21 +45,10 @@ module _ (m : Moment) (still : m.cyclic ≡ false) where
   unfolding list_below beside pin_table
   still_61 = rw still refl
 
-  still_81 : m.doutDriven ≡ false → m.dinDriven ≡ false → five_levels 20 m ≡ 0x30 ∷ 0x30 ∷ 0x30 ∷ 0x30 ∷ 0x30 ∷ []
+  pub still_81 : m.doutDriven ≡ false → m.dinDriven ≡ false → five_levels 20 m ≡ 0x30 ∷ 0x30 ∷ 0x30 ∷ 0x30 ∷ 0x30 ∷ []
   unfolding list_below beside pin_table
   still_81 out into = rw (still, out, into) refl
 
-  still_driven_holds : m.doutDriven ≡ false → m.dinDriven ≡ false → driven_of m ≡ still_driven
+  pub still_driven_holds : m.doutDriven ≡ false → m.dinDriven ≡ false → driven_of m ≡ still_driven
   unfolding list_below beside pin_table driven_of
   still_driven_holds out into = rw (still, out, into) refl
-
--- and behind the levels of pins 1 to 80, those of the other pins and what is driven
-pub rest_put : (line : List ℕ) (m : Moment) → 50 ≤ length line → m.cyclic ≡ false → m.doutDriven ≡ false → m.dinDriven ≡ false
-    → put_mid 20 30 line (0x30 ∷ 0x30 ∷ 0x30 ∷ 0x30 ∷ 0x30 ∷ still_driven) ≡ sets line 20 (five_levels 20 m ++ driven_of m)
-rest_put line m room still out into =
-    let rest = 0x30 ∷ 0x30 ∷ 0x30 ∷ 0x30 ∷ 0x30 ∷ still_driven in
-    let ordered : 20 ≤ 50 = omega arith in
-    ap (λ (l : List ℕ). take 20 line ++ (rest ++ l)) (Post-is 20 50 line ordered)
-    ∙ sym (append_assoc (take 20 line) rest (drop 50 line))
-    ∙ sym (sets-eq rest line 20 room)
-    ∙ ap (sets line 20) (sym (ap₂ ◌++◌ (still_81 m still out into) (still_driven_holds m still out into)))

@@ -3,13 +3,13 @@ use mathlib.Core.Path.{refl}
 use Rattle.words.specs.Below.{list_below}
 use Rattle.words.specs.Among.{beside}
 use Rattle.pins.specs.Pin.{pin_table}
-use Rattle.picturing.proofs.FiveLaws.{five_put}
+use Rattle.picturing.proofs.FiveLaws.{five_stored}
 use Rattle.picturing.proofs.driven.put_driven_1.Goals as goal
 
 pub returns : goal.returns
 unfolding list_below beside pin_table
 returns c =
-    five_put c.args.line.now 25
+    five_stored c.args.five.now c.told-five
     refl
     refl
     refl

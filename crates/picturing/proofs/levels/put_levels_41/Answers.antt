@@ -3,13 +3,13 @@ use mathlib.Core.Path.{refl}
 use Rattle.words.specs.Below.{list_below}
 use Rattle.words.specs.Among.{beside}
 use Rattle.pins.specs.Pin.{pin_table}
-use Rattle.picturing.proofs.FiveLaws.{five_put}
+use Rattle.picturing.proofs.FiveLaws.{five_stored}
 use Rattle.picturing.proofs.levels.put_levels_41.Goals as goal
 
 pub returns : goal.returns
 unfolding list_below beside pin_table
 returns c =
-    five_put c.args.line.now 10
+    five_stored c.args.five.now c.told-five
     (rw (c.bit_at.ensures, c.bit_at-2.ensures, c.bit_at-3.ensures, c.is_on.ensures, c.from-din.ensures) at c.pin_digit.ensures)
     (rw (c.is_on-2.ensures, c.is_on-3.ensures, c.is_on-4.ensures) at c.pin_digit-2.ensures)
     refl

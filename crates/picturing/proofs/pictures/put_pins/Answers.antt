@@ -1,7 +1,8 @@
 -- Levels, and behind them what is driven.
-use Rattle.picturing.proofs.FilledLaws.{pins_put}
+use mathlib.Core.Path.{ap₂}
+use mathlib.Core.List.{◌++◌}
 use Rattle.picturing.proofs.pictures.put_pins.Goals as goal
 
 pub returns-then-m : goal.returns-then-m
 returns-then-m c =
-    rw (c.put_driven.ensures, c.put_levels.ensures) (pins_put c.args.line.now c.args.m)
+    ap₂ ◌++◌ c.put_levels.ensures c.put_driven.ensures
