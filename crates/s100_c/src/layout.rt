@@ -1,6 +1,6 @@
 // Where each field of a state stands in its bytes, and the bus in them.
-ghost use Rattle.std.specs.Prelude.{◌≡◌, ◌+◌, ◌≤◌, MatchOption, true, false};
-ghost use Rattle.s100_c.specs.Layout.{sixteen_at, state_size, is_state, state_bytes, bus_in};
+ghost use Rattle.std.specs.Prelude.{◌≡◌, ◌+◌, ◌≤◌, MatchOption, true, false, take, drop};
+ghost use Rattle.s100_c.specs.Layout.{state_size, is_state, state_bytes, bus_in};
 
 use bus::Bus;
 
@@ -29,22 +29,23 @@ pub fn bus_in(state: &[u8; STATE_SIZE]) -> Bus
     ensures { result ≡ bus_in state.now }
 {
     Bus {
-        fitted: u16::from_be_bytes([state[FITTED_AT], state[FITTED_AT + 1]]),
-        pages: sixteen_at(state, PAGES_AT),
+        fitted: u16::from_be_bytes(part(state, FITTED_AT)),
+        pages: part(state, PAGES_AT),
         phase: state[PHASE_AT],
-        contenders: u16::from_be_bytes([state[CONTENDERS_AT], state[CONTENDERS_AT + 1]]),
-        driven: sixteen_at(state, DRIVEN_AT),
+        contenders: u16::from_be_bytes(part(state, CONTENDERS_AT)),
+        driven: part(state, DRIVEN_AT),
         granted: state[GRANTED_AT],
     }
 }
 
-fn sixteen_at(state: &[u8; STATE_SIZE], at: usize) -> [u8; 16]
-    requires { at + 16 ≤ state_size }
-    ensures { result ≡ sixteen_at at state.now }
+// So many bytes from a place on.
+fn part<const WIDTH: usize>(state: &[u8; STATE_SIZE], at: usize) -> [u8; WIDTH]
+    requires { at + WIDTH ≤ state_size }
+    ensures { result ≡ take WIDTH (drop at state.now) }
 {
-    let mut entries = [0; 16];
-    entries.copy_from_slice(&state[at..at + 16]);
-    entries
+    let mut bytes = [0; WIDTH];
+    bytes.copy_from_slice(&state[at..at + WIDTH]);
+    bytes
 }
 
 pub fn put_bus(bus: Bus, state: &mut [u8; STATE_SIZE])
