@@ -1,18 +1,11 @@
 -- What is put at the end stands behind what the last lines got.
-use mathlib.Core.Path.{◌≡◌, sym}
+use mathlib.Core.Path.{sym}
 use borrow.Author.Tests.{eq-eqb}
 use Rattle.bus.specs.Refusal as Refusal
 use Rattle.session.specs.Feeding.{fed_told, world_of, feed_refusal}
 use Rattle.session.specs.World.{World}
-use Rattle.session.proofs.FeedLaws.{FedTaken, then_closed, finished, written_within}
+use Rattle.session.proofs.FeedLaws.{then_closed, finished, written_within}
 use Rattle.feeding.proofs.feeding.finish.Goals as goal
-use Rattle.feeding.proofs.feeding.finish.Goals.{After-take_in-fed}
-
-taken : (c : After-take_in-fed)
-    → FedTaken c.from-wanted.result (world_of c.args.session c.args.memory.now c.args.ports.now) c.end_line-filled.new.text c.args.out.now
-    c.end_line-filled.result (fed_told c.take_in-fed.result) c.take_in-fed.new.text c.take_in-fed.new.out c.take_in-fed.new.memory c.take_in-fed.new.ports
-taken c =
-    let left = c.take_in-fed.ensures in (left.fed, (left.text_left, (left.out_left, (left.memory_left, left.ports_left))))
 
 pub close-requires : goal.close-requires
 close-requires c =
