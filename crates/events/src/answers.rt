@@ -4,7 +4,8 @@ use bus::Bus;
 // The parts of 01's answer line, in its order.
 #[derive(Clone, Copy, Default)]
 pub struct Answer {
-    // 0 where the event was accepted. Kept: an answer also stands in bytes that C lends, where this may be any number.
+    // 0 where the event was accepted.
+    // Kept: a number, since an answer also stands in bytes that C lends (`s100_c`), where it may be any.
     pub refusal: u8,
     pub phase: u8,
     pub granted: u8,
