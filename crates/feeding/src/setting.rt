@@ -63,7 +63,7 @@ pub fn setup_answer(given: Result<Bus, RefusedLine>) -> Answer
     ensures { result ≡ answer_told given }
 {
     match given {
-        Ok(bus) => answer_with(ACCEPTED, bus, signals(bus.phase), 0, None),
+        Ok(bus) => answer_with(ACCEPTED, bus, signals(bus.phase), 0, 0, 0),
         Err(refused) => bare_with(refused.refusal.into(), refused.column.into()),
     }
 }

@@ -1,9 +1,11 @@
 // What is answered to an event.
 ghost use Rattle.std.specs.Prelude.{◌≡◌};
+ghost use Rattle.bus.specs.Refusal.{accepted};
 ghost use Rattle.memory.specs.Told.{moved_in};
 ghost use Rattle.events.specs.Answers.{answer_with, signals_with, word_signals, bare_with};
 
 use bus::Bus;
+use bus::numbers::ACCEPTED;
 use events::Answer;
 use memory::{Moved, Slave};
 use phases::Kind;
@@ -11,13 +13,9 @@ use phases::numbers::{S_XTRQ, SIXTN};
 use tables::signals;
 
 // What the bus shows, and beside it what a cycle had on it.
-pub fn answer_with(refusal: u8, bus: Bus, signals: u8, status: u8, moved: Option<Moved>) -> Answer
-    ensures { result ≡ answer_with refusal bus signals status (moved_in moved) }
+pub fn answer_with(refusal: u8, bus: Bus, signals: u8, status: u8, cycles: u8, datum: u16) -> Answer
+    ensures { result ≡ answer_with refusal bus signals status (record { datum = datum; cycles = cycles }) }
 {
-    let (cycles, datum) = match moved {
-        Some(moved) => (moved.cycles, moved.datum),
-        None => (0, 0),
-    };
     Answer {
         refusal,
         phase: bus.phase,
@@ -27,6 +25,16 @@ pub fn answer_with(refusal: u8, bus: Bus, signals: u8, status: u8, moved: Option
         status,
         cycles,
         datum,
+    }
+}
+
+// What a step that was taken is answered, with what it moved.
+pub fn accepted_with(bus: Bus, signals: u8, status: u8, moved: Option<Moved>) -> Answer
+    ensures { result ≡ answer_with accepted bus signals status (moved_in moved) }
+{
+    match moved {
+        Some(moved) => answer_with(ACCEPTED, bus, signals, status, moved.cycles, moved.datum),
+        None => answer_with(ACCEPTED, bus, signals, status, 0, 0),
     }
 }
 

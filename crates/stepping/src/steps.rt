@@ -5,9 +5,8 @@ ghost use Rattle.events.specs.Answers.{refused_with};
 ghost use Rattle.events.specs.Machine.{machine};
 ghost use Rattle.events.specs.Step.{bus_by, taken_by, answer_by, stepped, after, step_of, sound_after, sound_step_of};
 
-use crate::answering::{answer_with, bare_with, signals_with};
+use crate::answering::{accepted_with, answer_with, bare_with, signals_with};
 use crate::cycles::cycle;
-use bus::numbers::ACCEPTED;
 use bus::{Bus, Refusal, Step};
 use events::Stepped;
 use judgement::Event;
@@ -30,7 +29,7 @@ fn accepted(step: Step, bus: Bus, event: Event, memory: &mut [u8], ports: &mut [
     let signals = signals_with(next.phase, event.kind, slave);
     Stepped {
         bus: next,
-        answer: answer_with(ACCEPTED, next, signals, status(event.kind), moved),
+        answer: accepted_with(next, signals, status(event.kind), moved),
     }
 }
 
@@ -71,7 +70,7 @@ fn refused(refusal: Refusal, bus: Bus) -> Stepped
     let number = u8::from(refusal);
     let answer = match refusal {
         Refusal::WrongBuffers | Refusal::Senseless => bare_with(number, 0),
-        _ => answer_with(number, bus, signals(bus.phase), 0, None),
+        _ => answer_with(number, bus, signals(bus.phase), 0, 0, 0),
     };
     Stepped { bus, answer }
 }
