@@ -62,7 +62,8 @@ fn standing_fits(bus: Bus) -> bool
 fn contention_fits(bus: Bus) -> bool
     ensures { result ≡ contention_fits bus }
 {
-    is_within(bus.contenders, bus.fitted) && some_card(bus.contenders) == bus.is_in(Phase::Arbitration)
+    is_within(bus.contenders, bus.fitted)
+        && some_card(bus.contenders) == bus.is_in(Phase::Arbitration)
 }
 
 fn grant_fits(bus: Bus) -> bool
