@@ -14,7 +14,7 @@ ghost use Rattle.s100_c.specs.Calls.{
 };
 
 use crate::answer_layout::put_answer;
-use crate::layout::{bus_in, put_bus};
+use crate::layout::{STATE_SIZE, bus_in, put_bus};
 use bus::numbers::ACCEPTED;
 use bus::{Chassis, EMPTY_CHASSIS, Refusal};
 use judgement::Event;
@@ -93,7 +93,7 @@ pub extern "C" fn s100_settle(state: &mut [u8], cards: &[u8], looks: &mut usize)
     ensures leaves { state.new ≡ settle_leaves state.old cards.now }
     ensures counts { looks.new ≡ settle_counts state.old cards.now looks.old }
 {
-    let Some(state) = state.as_mut_array() else {
+    let Some(state) = state.as_mut_array::<STATE_SIZE>() else {
         return u8::from(Refusal::WrongLength);
     };
     match settle(bus_in(state), cards) {
