@@ -58,6 +58,7 @@ pub fn take_lines(
     let mut rest = text;
     let mut used: usize = 0;
     let mut written: usize = 0;
+    // Kept: a `while`, since no count says beforehand how many lines have ended and find room, and a `for` with a `break` for both would say less.
     while most <= out.len() - written {
         let line = take_line(wanted, stage, bus, rest, &mut out[written..], memory, ports);
         let size = line.used;
@@ -72,12 +73,9 @@ pub fn take_lines(
         written += line.written;
     }
     TakenLines {
-        session: Session {
-            stage: stage,
-            bus: bus,
-        },
-        used: used,
-        written: written,
+        session: Session { stage, bus },
+        used,
+        written,
     }
 }
 
@@ -176,11 +174,8 @@ fn told(stage: Stage, bus: Bus, used: usize, written: usize) -> TakenLines
     ensures { result ≡ told stage bus used written }
 {
     TakenLines {
-        session: Session {
-            stage: stage,
-            bus: bus,
-        },
-        used: used,
-        written: written,
+        session: Session { stage, bus },
+        used,
+        written,
     }
 }
