@@ -25,7 +25,7 @@ pub const EMPTY_CHASSIS: Chassis = Chassis {
 pub struct Bus {
     pub fitted: u16,
     pub pages: [u8; 16],
-    // Kept: a number, since a state may have any here, and one that no phase has is told apart as senseless.
+    // Kept: a number, since a state may have any here, and one that no phase has is told apart as senseless (`makes_sense`).
     pub phase: u8,
     // The contenders: bit n for card n.
     pub contenders: u16,

@@ -4,6 +4,7 @@ ghost use Rattle.bus.specs.Step.{step_by};
 
 use crate::state::Bus;
 
+// Kept: an enum and no closure, since a judgement hands a step on, and `step_by` and `judging` each go by it.
 #[derive(Clone, Copy)]
 pub enum Step {
     Request,

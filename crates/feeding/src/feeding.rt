@@ -19,6 +19,7 @@ use text::NEWLINE;
 
 // Takes the lines that have ended in the filled part of the text, as many as `out` has room for, and brings the rest to the front.
 // What is read next goes behind it.
+// Kept: how much is filled stands beside the text, since a caller may say more than there is, which is refused (`feed_refusal`).
 pub fn feed(
     wanted: u8,
     session: Session,
@@ -85,7 +86,7 @@ fn check(bus: Bus, text: &[u8], filled: usize, memory: &[u8], ports: &[u8]) -> R
 {
     if text.len() < filled {
         Err(Refusal::WrongLength)
-    } else if (memory.len() != 0x10000) | (ports.len() != 0x100) {
+    } else if memory.len() != 0x10000 || ports.len() != 0x100 {
         Err(Refusal::WrongBuffers)
     } else if !makes_sense(bus) {
         Err(Refusal::Senseless)
@@ -127,7 +128,7 @@ fn end_line(text: &mut [u8], held: usize) -> usize
     ensures ended_at { result ≡ ended_at text.old held }
     ensures text_left { text.new ≡ ended_text text.old held }
 {
-    if (0 < held) & (held < text.len()) {
+    if 0 < held && held < text.len() {
         let last = text[held - 1];
         if last != NEWLINE {
             text[held] = NEWLINE;

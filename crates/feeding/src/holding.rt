@@ -26,7 +26,7 @@ fn held_count(rest: &[u8]) -> usize
     ensures { result ≡ length (held_of rest.now) }
 {
     let size = rest.len();
-    if (line_end(rest) == size) & (MOST_HELD < size) {
+    if line_end(rest) == size && MOST_HELD < size {
         MOST_HELD
     } else {
         size

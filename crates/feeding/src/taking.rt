@@ -23,11 +23,7 @@ const EVENT_BYTES: usize = EVENT_DIGITS + 1;
 pub fn has_room(wanted: u8, out: &[u8], written: usize) -> bool
     ensures { result ≡ has_room (wanted_by wanted) (length out.now) written }
 {
-    if written <= out.len() {
-        most_said(Wanted::from(wanted)) <= out.len() - written
-    } else {
-        false
-    }
+    written <= out.len() && most_said(Wanted::from(wanted)) <= out.len() - written
 }
 
 // As many lines as have ended and find room, one after another: each is read from the slice behind the newline before it.

@@ -38,7 +38,7 @@ pub const EIGHT_BIT_PAGE: u8 = 1;
 pub const SIXTEEN_BIT_PAGE: u8 = 2;
 
 // What answers a cycle: the page that its address lies in, by its code.
-// Kept: a code and no enum, since a state's page may have any number, and the promises of word cycles (specs/Promises) hold for any.
+// Kept: a code and no enum, since a state's page may have any number, and the promises of word cycles (`WordMoves`) hold for any.
 #[derive(Clone, Copy, Debug, PartialEq, Eq)]
 pub struct Slave {
     pub code: u8,

@@ -22,6 +22,7 @@ pub enum Outcome {
     Loses(Loss),
 }
 
+// Kept: numbers, since an outcome line and the C interface show them (`figures_of`), FF where there is neither line nor rival.
 // What is told of it: the answer's number, the card that was asked about, the line and the rival.
 #[derive(Clone, Copy, Debug, PartialEq, Eq)]
 pub struct Figures {

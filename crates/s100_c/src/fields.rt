@@ -7,6 +7,7 @@ use crate::layout::lent_bus;
 use sense::makes_sense;
 
 // The buffer isn't as long as a state, or there is no such page or card.
+// Kept: a number, which is what the C interface answers.
 const NO_FIELD: u32 = 0xFFFFFFFF;
 
 #[unsafe(no_mangle)]

@@ -11,6 +11,7 @@ use pins::sizes::MOST_PICTURED;
 use reading::picture_line;
 
 // Where no phase has the signals.
+// Kept: a number, which is what the C interface answers.
 const NO_PHASE: u8 = 0xFF;
 
 #[unsafe(no_mangle)]

@@ -21,6 +21,7 @@ pub struct Session {
 }
 
 // The numbers by which a program says what is wanted.
+// Kept: numbers, since `run`, `feed` and `finish` take any number (`wanted_by`).
 pub const WANTS_ANSWERS: u8 = 0;
 
 pub const WANTS_PICTURES: u8 = 1;

@@ -13,6 +13,7 @@ use phases::numbers::{S_XTRQ, SIXTN};
 use tables::signals;
 
 // What the bus shows, and beside it what a cycle had on it.
+// Kept: a refusal's number here and in `bare_with`, 0 for none, as the answer has it (`answer_with`).
 pub fn answer_with(refusal: u8, bus: Bus, signals: u8, status: u8, cycles: u8, datum: u16) -> Answer
     ensures { result ≡ answer_with refusal bus signals status (record { datum = datum; cycles = cycles }) }
 {

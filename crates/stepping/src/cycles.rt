@@ -16,7 +16,7 @@ pub fn cycle(slave: Slave, event: Event, memory: &mut [u8], ports: &mut [u8]) ->
 {
     let at = event.address as usize;
     let datum = event.datum;
-    let byte = (datum % 256) as u8;
+    let [_, byte] = datum.to_be_bytes();
     match Kind::try_from(event.kind) {
         Ok(Kind::ByteRead | Kind::OpcodeFetch) => byte_read(memory, at),
         Ok(Kind::ByteWrite) => byte_write(memory, at, byte),
