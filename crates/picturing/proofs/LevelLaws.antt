@@ -60,9 +60,6 @@ quieted_twice m = go m.address m.dout m.din m.cyclic m.doutDriven m.dinDriven
     go a o i false false true = refl
     go a o i false false false = refl
 
-pub is_quiet : {r : Moment} (m : Moment) → r ≡ quieted m → r ≡ quieted r
-is_quiet m e = e ∙ quieted_twice m ∙ ap quieted (sym e)
-
 driven_alike : (m : Moment) → driven_of (quieted m) ≡ driven_of m
 unfolding driven_of list_below beside pin_table
 driven_alike m = refl

@@ -1,18 +1,19 @@
 // The levels of the hundred pins at one moment, twenty pins to a function, four to a digit (003, Appendix B).
 ghost use Rattle.std.specs.Prelude.{◌≡◌};
 ghost use Rattle.pins.specs.Picture.{levels_of};
-ghost use Rattle.picturing.specs.Fives.{five_shown, quieted};
+ghost use Rattle.picturing.specs.Fives.{five_shown};
 
+use crate::moments::Quiet;
 use crate::pin_digits::*;
 use phases::numbers::*;
 use pins::Moment;
 use pins::sizes::LEVEL_DIGITS;
 use tables::mwrt;
 
-pub fn put_levels(m: Moment, levels: &mut [u8; LEVEL_DIGITS])
-    requires { m ≡ quieted m }
-    ensures { levels.new ≡ levels_of m }
+pub fn put_levels(quiet: Quiet, levels: &mut [u8; LEVEL_DIGITS])
+    ensures { levels.new ≡ levels_of quiet.moment }
 {
+    let m = quiet.moment;
     let (five, rest) = levels.split_first_chunk_mut().unwrap();
     put_levels_1(m, five);
     let (five, rest) = rest.split_first_chunk_mut().unwrap();

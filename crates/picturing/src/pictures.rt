@@ -1,10 +1,8 @@
 // The lines of a picture, each digit put where it stays.
 ghost use Rattle.std.specs.Prelude.{[], ◌∷◌, ◌≡◌, length};
 ghost use Rattle.std.proofs.lemmas.List.Edits.{sets};
-ghost use Rattle.phases.specs.Kinds.{number_of_kind};
 ghost use Rattle.pins.specs.Moments.{even_moment, odd_moment, cycle_moments};
 ghost use Rattle.pins.specs.Picture.{picture_of, picture_line, lines_for, picture_length, pictures_of, pictured, bytes_pictured};
-ghost use Rattle.picturing.specs.Fives.{quieted};
 
 use crate::driven::put_driven;
 use crate::levels::put_levels;
@@ -14,7 +12,6 @@ use bus::numbers::ACCEPTED;
 use events::Answer;
 use judgement::Event;
 use phases::Kind;
-use pins::Moment;
 use pins::sizes::*;
 use text::NEWLINE;
 
@@ -38,74 +35,67 @@ fn put_accepted(event: Event, answer: Answer, lines: &mut [u8; MOST_PICTURED]) -
         return 0;
     }
     match Kind::try_from(event.kind) {
-        Ok(kind) if kind.is_cycle() => put_cycle_lines(kind, event, answer, lines),
+        Ok(kind) if kind.is_cycle() => put_cycle_lines(
+            Cycle {
+                kind,
+                event,
+                answer,
+            },
+            lines,
+        ),
         _ => put_one(idle_moment(event, answer), lines),
     }
 }
 
-fn put_cycle_lines(
-    kind: Kind,
-    event: Event,
-    answer: Answer,
-    lines: &mut [u8; MOST_PICTURED],
-) -> usize
-    requires { number_of_kind kind ≡ event.kind }
-    ensures put { result ≡ length (lines_for (cycle_moments event answer)) }
-    ensures left { lines.new ≡ sets lines.old 0 (lines_for (cycle_moments event answer)) }
+fn put_cycle_lines(cycle: Cycle, lines: &mut [u8; MOST_PICTURED]) -> usize
+    ensures put { result ≡ length (lines_for (cycle_moments cycle.event cycle.answer)) }
+    ensures left { lines.new ≡ sets lines.old 0 (lines_for (cycle_moments cycle.event cycle.answer)) }
 {
-    let is_word = kind.is_word();
-    if is_word & (answer.cycles == 2) {
-        put_split(kind, event, answer, lines)
-    } else if is_word {
-        put_one(word_moment(event, answer), lines)
+    if !cycle.kind.is_word() {
+        put_one(cycle.byte(), lines)
+    } else if cycle.answer.cycles == 2 {
+        put_split(cycle, lines)
     } else {
-        let [_, byte] = answer.datum.to_be_bytes();
-        put_one(
-            byte_moment(kind, event, answer, answer.signals, event.address, byte),
-            lines,
-        )
+        put_one(cycle.word(), lines)
     }
 }
 
 // The even address, and behind it the odd one.
-fn put_split(kind: Kind, event: Event, answer: Answer, lines: &mut [u8; MOST_PICTURED]) -> usize
-    requires { number_of_kind kind ≡ event.kind }
-    ensures put { result ≡ length (lines_for (even_moment event answer ∷ odd_moment event answer ∷ [])) }
-    ensures left { lines.new ≡ sets lines.old 0 (lines_for (even_moment event answer ∷ odd_moment event answer ∷ [])) }
+fn put_split(cycle: Cycle, lines: &mut [u8; MOST_PICTURED]) -> usize
+    ensures put { result ≡ length (lines_for (even_moment cycle.event cycle.answer ∷ odd_moment cycle.event cycle.answer ∷ [])) }
+    ensures left { lines.new ≡ sets lines.old 0 (lines_for (even_moment cycle.event cycle.answer ∷ odd_moment cycle.event cycle.answer ∷ [])) }
 {
     let (first, rest) = lines.split_first_chunk_mut().unwrap();
     let second = rest.as_mut_array().unwrap();
-    put_line(even_moment(kind, event, answer), first);
-    put_line(odd_moment(kind, event, answer), second);
+    put_line(cycle.even(), first);
+    put_line(cycle.odd(), second);
     MOST_PICTURED
 }
 
-fn put_one(m: Moment, lines: &mut [u8; MOST_PICTURED]) -> usize
-    requires { m ≡ quieted m }
+fn put_one(quiet: Quiet, lines: &mut [u8; MOST_PICTURED]) -> usize
     ensures put { result ≡ picture_length }
-    ensures left { lines.new ≡ sets lines.old 0 (picture_line m) }
+    ensures left { lines.new ≡ sets lines.old 0 (picture_line quiet.moment) }
 {
-    put_line(m, lines.first_chunk_mut().unwrap());
+    put_line(quiet, lines.first_chunk_mut().unwrap());
     PICTURE_LENGTH
 }
 
-fn put_line(m: Moment, line: &mut [u8; PICTURE_LENGTH])
-    requires { m ≡ quieted m }
-    ensures { line.new ≡ picture_line m }
+fn put_line(quiet: Quiet, line: &mut [u8; PICTURE_LENGTH])
+    ensures { line.new ≡ picture_line quiet.moment }
 {
     let (digits, rest) = line.split_first_chunk_mut().unwrap();
-    put_pins(m, digits);
+    put_pins(quiet, digits);
     rest[0] = NEWLINE;
 }
 
 // An event that is no cycle is put with less work.
-fn put_pins(m: Moment, digits: &mut [u8; PICTURE_DIGITS])
-    requires { m ≡ quieted m }
-    ensures { digits.new ≡ picture_of m }
+fn put_pins(quiet: Quiet, digits: &mut [u8; PICTURE_DIGITS])
+    ensures { digits.new ≡ picture_of quiet.moment }
 {
-    if m.cyclic | m.doutDriven | m.dinDriven {
+    let m = quiet.moment;
+    if m.cyclic {
         let (levels, rest) = digits.split_first_chunk_mut().unwrap();
-        put_levels(m, levels);
+        put_levels(quiet, levels);
         put_driven(m, rest.as_mut_array().unwrap());
     } else {
         put_still(m, digits);

@@ -7,4 +7,4 @@ use Rattle.picturing.proofs.levels.put_levels.Goals as goal
 pub returns : goal.returns
 returns c =
     rw (c.put_levels_1.ensures, c.put_levels_21.ensures, c.put_levels_41.ensures, c.put_levels_61.ensures, c.put_levels_81.ensures) (
-    levels_by_fives c.args.m ∙ ap shown_levels c.requires ∙ quieted_levels c.args.m)
+    levels_by_fives c.args.quiet.moment ∙ ap shown_levels c.args.quiet.undriven_counts_nothing ∙ quieted_levels c.args.quiet.moment)

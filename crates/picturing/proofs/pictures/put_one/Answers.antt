@@ -12,4 +12,4 @@ use Rattle.picturing.proofs.pictures.put_one.Goals as goal
 pub returns-clause-left : goal.returns-clause-left
 returns-clause-left c =
     let place = c.args.lines.now in
-    ap (λ (l : List ℕ). l ++ drop picture_length place) c.put_line.ensures ∙ put_in_front place _ (line_long c.args.m) (omega (arith, c.told-lines))
+    ap (λ (l : List ℕ). l ++ drop picture_length place) c.put_line.ensures ∙ put_in_front place _ (line_long c.args.quiet.moment) (omega (arith, c.told-lines))
