@@ -12,7 +12,7 @@ use phases::numbers::S_XTRQ;
 use pins::Moment;
 use tables::control;
 
-// A moment with 0 for what nobody drives of address and bytes.
+// A moment as it is written: 0 for the address and the bytes that nobody drives, and nobody drives a byte outside a cycle.
 #[derive(Clone, Copy)]
 pub struct Quiet {
     pub moment: Moment,
@@ -101,7 +101,7 @@ fn moment(
 ) -> Quiet
     ensures { result.moment ≡ quieted (moment_of event answer signals address (unwrap_or out 0) (unwrap_or into 0) (is_some out) (is_some into)) }
 {
-    let cyclic = out.is_some() | into.is_some();
+    let cyclic = out.is_some() || into.is_some();
     Quiet {
         moment: Moment {
             signals,
