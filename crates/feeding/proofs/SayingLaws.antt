@@ -1,24 +1,12 @@
 -- What is put for a line, where there is room for the most that is wanted.
-use mathlib.Core.Path.{◌≡◌, refl, sym, subst, ◌∙◌}
-use mathlib.Core.Bool.{Bool, true, false, cond}
-use mathlib.Core.List.{List, []}
+use mathlib.Core.Path.{◌≡◌, sym, ◌∙◌}
+use mathlib.Core.List.{List}
 use Prim.Native.Nat.{ℕ, ◌≤◌}
-use native.Mathlib.Omega.{arith}
-use borrow.Author.Tests.{eq-eqb, ne_eqb, le-leb}
-use lib.Dec.{eqb, leb}
 use lib.ListN.{length}
 use lib.Seq.{sets}
-use Rattle.words.proofs.TestLaws.{cond_same}
-use Rattle.judgement.specs.declared.event.Event.{Event}
 use Rattle.events.specs.declared.answers.Answer.{Answer}
 use Rattle.text.specs.AnswerLine.{answer_line, answer_length, bytes_put, printed}
 use Rattle.text.proofs.ReadingLaws.{answer_long, printed_fits, bytes_fit}
-use Rattle.pins.specs.Picture.{most_pictured, pictures_of, bytes_pictured, pictured}
-use Rattle.session.specs.World.{wants_answers, wants_outcomes, wanted_by, reply_as, most_said}
-use Rattle.session.specs.Feeding.{closed_in}
-use Rattle.session.specs.declared.state.Session.{Session}
-use Rattle.session.specs.declared.state.Wanted.{Wanted}
-use Rattle.session.specs.declared.state.Wanted.TheVariants.{Answers, Pictures, Outcomes}
 
 -- these bytes were counted, and stand at the front of the place
 abbrev pub PutAs : List ℕ → List ℕ → ℕ → List ℕ → Type 0

@@ -14,7 +14,7 @@ returns-then-size-gt-MOST_HELD c =
 pub returns-else-line_end-size : goal.returns-else-line_end-size
 returns-else-line_end-size c =
     elim c.else-line_end-size.branch [
-      else-line_end-size-via-then-line_end-size+else-size-gt-MOST_HELD w ↦
+      | else-line_end-size-via-then-line_end-size+else-size-gt-MOST_HELD w ↦
           held_count_whole c.args.rest.now _ c.line_end.ensures (inr w.if-size-gt-MOST_HELD.false)
       | else-line_end-size-via-else-line_end-size w ↦ held_count_whole c.args.rest.now _ c.line_end.ensures (inl w.if-line_end-size.false)
     ]
