@@ -1,8 +1,8 @@
 -- A setup line is refused for its own sake or for its chassis', or accepted.
-use mathlib.Core.Path.{◌≡◌, refl, sym, subst}
+use mathlib.Core.Path.{◌≡◌, refl, subst}
 use Rattle.std.specs.Prelude.{Result, Ok, Err}
 use borrow.Author.Tests.{ne_eqb}
-use Rattle.bus.specs.Setup.{SetupAnswer, setup_of}
+use Rattle.bus.specs.Setup.{setup_of}
 use Rattle.bus.specs.Told.{set_up}
 use Rattle.bus.specs.declared.refusal.Refusal.{Refusal}
 use Rattle.bus.specs.declared.state.Bus.{Bus}
