@@ -24,4 +24,9 @@ returns-in_ok-size-in-None c =
     let text = c.args.text.now in
     let at = newline_somewhere text c.in_ok-size-in-None.size (sym c.newline_at.ensures ∙ c.in_ok-size-in-None.was) in
     let other = not_at_place text at.0 c.in-None.ensures in
-    rw (← ended_next text at.0, ← bad_in (first_line text) (other_length (first_line text) other), wrong_line_length_holds event_digits (first_line text) other, at.1) refl
+    rw (
+      ← ended_next text at.0,
+      ← bad_in (first_line text) (other_length (first_line text) other),
+      wrong_line_length_holds event_digits (first_line text) other,
+      at.1,
+    ) refl

@@ -14,7 +14,8 @@ use Rattle.pins.specs.ReadAgain.{phase_unknown}
 use Rattle.pins.specs.Told.{phase_told}
 use Rattle.reading.proofs.picture_reading.phase_with.Goals as goal
 
-told_first : (has : Bool) (phase : Phase) (later : Option Phase) → phase_told (cond has (Some phase) later) ≡ cond has (number_of_phase phase) (phase_told later)
+told_first : (has : Bool) (phase : Phase) (later : Option Phase)
+    → phase_told (cond has (Some phase) later) ≡ cond has (number_of_phase phase) (phase_told later)
 told_first true phase later = refl
 told_first false phase later = refl
 
