@@ -1,6 +1,6 @@
 // The fifteen kinds of events, by name, with the numbers that 01 gives them in "Events".
 ghost use Rattle.std.specs.Prelude.{◌≡◌, ◌||◌};
-ghost use Rattle.phases.specs.Kinds.{number_of_kind, Numbered};
+ghost use Rattle.phases.specs.Kinds.{number_of_kind, kind_of, Numbered};
 
 #[derive(Clone, Copy, Debug, PartialEq, Eq)]
 pub enum Kind {
@@ -28,8 +28,9 @@ pub struct UnknownKind(pub u8);
 impl TryFrom<u8> for Kind {
     type Error = UnknownKind;
 
-    ghost try_from_gives = { Numbered };
+    ghost try_from_gives = { λ number r. (r ≡ kind_of number) × Numbered number r };
 
+    #[tactic(auto, unfolding(crate::specs::Kinds::kind_of, words::specs::Among::beside))]
     fn try_from(number: u8) -> Result<Self, UnknownKind> {
         match number {
             0x01 => Ok(Kind::Request),
