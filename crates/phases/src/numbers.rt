@@ -1,4 +1,9 @@
-// The weights of signals, status and control outputs, as constants; specs/ has a definition for each.
+// The last phase, the last kind of event, and the weights of signals, status and control outputs, as constants; specs/ has a definition for each.
+use crate::{Kind, Phase};
+
+pub const LAST_PHASE: u8 = Phase::TransferTwo as u8;
+
+pub const LAST_KIND: u8 = Kind::Reset as u8;
 
 // Signals that go by the phase.
 pub const HOLD: u8 = 0x01;

@@ -47,7 +47,7 @@ fn drivers_and_signals(rt: &impl Print) -> io::Result<()> {
     println!(rt;
         "phase, drivers of address, status, data-out and control, signals, control outputs"
     )?;
-    for phase in 0..=6 {
+    for phase in 0..=LAST_PHASE + 1 {
         print!(rt; "{phase:02X}")?;
         for group in 0..4 {
             print!(rt; "{:02X}", u8::from(tables::driver(phase, group)))?;
@@ -145,7 +145,7 @@ fn setups_and_senses(rt: &impl Print) -> io::Result<()> {
         (2, 1, 0x0008, NOBODY),
         (2, 4, 0, 3),
         (3, 0, 0, NOBODY),
-        (2, 6, 0, NOBODY),
+        (2, LAST_PHASE + 1, 0, NOBODY),
         (2, 1, 0x0004, NOBODY),
         (2, 1, 0, NOBODY),
         (2, 0, 0x0008, NOBODY),
