@@ -1,10 +1,10 @@
 -- The table's rows and its columns.
 use Prim.Native.Nat.{ℕ, ◌<◌, ◌≤◌}
 use mathlib.Core.Path.{◌≡◌, refl, sym, ap, ◌∙◌}
-use mathlib.Core.Bool.{Bool, true, false, not, cond, ◌&&◌, true≢false}
+use mathlib.Core.Bool.{Bool, true, false, not, cond, ◌&&◌, ◌||◌, true≢false}
 use native.Mathlib.Decide.{dec_lt}
 use native.Mathlib.Omega.{arith}
-use lib.Dec.{leb, ltb, lit≤}
+use lib.Dec.{eqb, leb, ltb, lit≤}
 use borrow.Author.Tests.{le-leb, lt-leb, le-ltb}
 use Rattle.words.specs.Below.{all_below}
 use Rattle.words.specs.Among.{beside, has_beside, every_row}
@@ -12,7 +12,7 @@ use Rattle.words.proofs.BelowLaws.{same_tests_below}
 use Rattle.words.proofs.RowLaws.{EachRow, end, ◌and◌, by_rows, rows_pass, no_row_beside, rows_only}
 use Rattle.phases.specs.Phase as Phase
 use Rattle.phases.specs.Kind as Kind
-use Rattle.judgement.specs.Table.{Row, row, master, table, has_row, row_of, no_row, is_cycle_step, is_cycle}
+use Rattle.judgement.specs.Table.{Row, row, master, table, has_row, row_of, no_row, lists_speaker, lists_address, is_cycle_step, is_cycle}
 use Rattle.judgement.specs.Promises.{EachKindHasItsRow, CycleKinds}
 use Rattle.bus.specs.declared.step.Step.{Step}
 
@@ -76,3 +76,14 @@ each_kind_has_its_row = between has_row Kind.request Kind.last (lit≤ tt) (lit�
 pub cycle_kinds : CycleKinds
 unfolding all_below beside
 cycle_kinds = between is_cycle Kind.byte_read Kind.output (lit≤ tt) (lit≤ tt) refl (λ k none. ap (λ (r : Row). is_cycle_step r.step) (no_row_holds k none))
+
+-- ---- The columns, computed over all kinds that a byte can say
+
+pub speaker_column : (kind : ℕ) → kind < 0x100
+    → (eqb kind Kind.look || leb Kind.begin_transfer_one kind && leb kind Kind.give_back) ≡ lists_speaker kind
+unfolding all_below beside
+speaker_column = same_tests_below (λ k. eqb k Kind.look || leb Kind.begin_transfer_one k && leb k Kind.give_back) lists_speaker 0x100 refl
+
+pub address_column : (kind : ℕ) → kind < 0x100 → (leb Kind.byte_read kind && leb kind Kind.output) ≡ lists_address kind
+unfolding all_below beside
+address_column = same_tests_below (λ k. leb Kind.byte_read k && leb k Kind.output) lists_address 0x100 refl

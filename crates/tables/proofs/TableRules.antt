@@ -1,5 +1,5 @@
 -- The rule of each table, computed over all that a byte can say: its entries, and beyond them. Then what a byte's masks say of its signals.
-use Prim.Native.Nat.{ℕ, ◌+◌, ◌<◌, ◌≤◌}
+use Prim.Native.Nat.{ℕ, suc, ◌+◌, ◌<◌, ◌≤◌}
 use mathlib.Core.Path.{◌≡◌, refl, sym, ap, ◌∙◌}
 use mathlib.Core.Bool.{Bool, true, false, cond, not}
 use mathlib.Core.List.{List}
@@ -12,8 +12,9 @@ use Rattle.words.proofs.TestLaws.{true_or_false}
 use Rattle.std.specs.Prelude.{◌≢◌, bit_and, nat_eq}
 use Rattle.words.specs.Below.{all_below}
 use Rattle.words.specs.Among.{is_among, beside}
-use Rattle.words.proofs.BelowLaws.{same_below, same_tests_below, same_in_rows, all_at}
+use Rattle.words.proofs.BelowLaws.{same_below, same_tests_below, same_in_rows, none_beyond, all_at}
 use Rattle.phases.specs.Phase as Phase
+use Rattle.phases.specs.Kind as Kind
 use Rattle.phases.specs.Signal.{pHLDA, is_on, signals_in}
 use Rattle.phases.specs.Driver.{drivers_in, driver_of}
 use Rattle.phases.specs.Drivers.{number_of_driver}
@@ -44,17 +45,44 @@ driver_entry phase group h = either (true_or_false (ltb group 4))
         ap number_of_driver (get_or-eq_default (drivers phase) Driver.Nobody (omega (arith, high, four)))
         ∙ sym (get_or-eq_default (drivers_in phase) 0 (omega (arith, high, at_most_four)))
 
+-- a row has four entries, and there is a row for each phase
+pub driver_no_group : (phase group : ℕ) → phase ≤ Phase.last → 4 ≤ group → 0 ≡ driver_of phase group
+unfolding all_below beside drivers_in
+driver_no_group phase group h g = sym (get_or-eq_default (drivers_in phase) 0 (omega (arith, four)))
+  where
+    four : length (drivers_in phase) ≡ 4
+    four = same_below (λ p. length (drivers_in p)) (λ p. 4) (suc Phase.last) refl phase (omega (arith, h))
+
+pub driver_no_phase : (phase group : ℕ) → Phase.last < phase → phase < 256 → 0 ≡ driver_of phase group
+unfolding all_below beside drivers_in
+driver_no_phase phase group h l = sym (get_or-eq_default (drivers_in phase) 0 (omega (arith, none)))
+  where
+    none : 0 ≡ length (drivers_in phase)
+    none = none_beyond (λ p. length (drivers_in p)) (suc Phase.last) 256 refl phase h (omega (arith, l))
+
 pub signals_entry : (phase : ℕ) → phase < 256 → (get_or PHASES phase NO_PHASE).signals ≡ signals_in phase
 unfolding all_below beside signals_in
 signals_entry phase h = same_below (λ p. (get_or PHASES p NO_PHASE).signals) signals_in 256 refl phase h
+
+pub signals_beyond : (phase : ℕ) → Phase.last < phase → phase < 256 → 0 ≡ signals_in phase
+unfolding all_below beside signals_in
+signals_beyond phase h l = none_beyond signals_in (suc Phase.last) 256 refl phase h (omega (arith, l))
 
 pub status_entry : (kind : ℕ) → kind < 256 → (get_or KINDS kind NO_CYCLE).status ≡ status_of kind
 unfolding all_below beside status_of
 status_entry kind h = same_below (λ k. (get_or KINDS k NO_CYCLE).status) status_of 256 refl kind h
 
+pub status_beyond : (kind : ℕ) → Kind.output < kind → kind < 256 → 0 ≡ status_of kind
+unfolding all_below beside status_of
+status_beyond kind h l = none_beyond status_of (suc Kind.output) 256 refl kind h (omega (arith, l))
+
 pub strobe_entry : (kind : ℕ) → kind < 256 → (get_or KINDS kind NO_CYCLE).strobe ≡ strobe_of kind
 unfolding all_below is_among strobe_of
 strobe_entry kind h = same_below (λ k. (get_or KINDS k NO_CYCLE).strobe) strobe_of 256 refl kind h
+
+pub strobe_beyond : (kind : ℕ) → Kind.output < kind → kind < 256 → 0 ≡ strobe_of kind
+unfolding all_below is_among strobe_of
+strobe_beyond kind h l = none_beyond strobe_of (suc Kind.output) 256 refl kind h (omega (arith, l))
 
 -- ---- Masks
 
