@@ -1,9 +1,10 @@
 -- What the code's results tell, in 01's numbers: each refusal has one, and what isn't refused is answered by 0.
 use Rattle.std.specs.Prelude.{ℕ, ◌≡◌, Result, Ok, Err}
 use Rattle.bus.specs.Refusal as Number
-use Rattle.bus.specs.Setup.{SetupAnswer, empty_bus}
-use Rattle.bus.specs.Settle.{Settlement, settle_refused}
+use Rattle.bus.specs.Setup.{SetupAnswer}
+use Rattle.bus.specs.Settle.{Settlement}
 use Rattle.bus.specs.declared.refusal.Refusal.{Refusal}
+use Rattle.bus.specs.declared.refusal.Refused.{Refused}
 use Rattle.bus.specs.declared.settle.Settled.{Settled}
 use Rattle.bus.specs.declared.state.Bus.{Bus}
 
@@ -33,12 +34,19 @@ abbrev pub answered : {A : Type 0} → Result A Refusal → ℕ
 answered (Ok told) = Number.accepted
 answered (Err refusal) = number_of refusal
 
--- a refused setup comes with the bus of an empty chassis
-abbrev pub set_up : Result Bus Refusal → SetupAnswer
+-- the bus comes with a refusal too
+abbrev pub set_up : Result Bus (Refused Bus) → SetupAnswer
 set_up (Ok bus) = record { answer = Number.accepted; bus = bus }
-set_up (Err refusal) = record { answer = number_of refusal; bus = empty_bus }
+set_up (Err refused) = record { answer = number_of refused.refusal; bus = refused.left }
 
--- a refused settle leaves the bus that it was given, and counts no look
-abbrev pub settlement : Bus → Result Settled Refusal → Settlement
-settlement bus (Ok settled) = record { answer = Number.accepted; bus = settled.bus; looks = settled.looks }
-settlement bus (Err refusal) = settle_refused (number_of refusal) bus
+-- and so do the state and the count
+abbrev pub settlement : Result Settled (Refused Settled) → Settlement
+settlement (Ok settled) = record { answer = Number.accepted; bus = settled.bus; looks = settled.looks }
+settlement (Err refused) = record { answer = number_of refused.refusal; bus = refused.left.bus; looks = refused.left.looks }
+
+-- no two results tell the same
+abbrev pub SetupsApart : Type 0
+SetupsApart = (one other : Result Bus (Refused Bus)) → set_up one ≡ set_up other → one ≡ other
+
+abbrev pub SettlementsApart : Type 0
+SettlementsApart = (one other : Result Settled (Refused Settled)) → settlement one ≡ settlement other → one ≡ other

@@ -9,7 +9,7 @@ mod state;
 mod step;
 mod steps;
 
-pub use refusal::Refusal;
+pub use refusal::{Refusal, Refused};
 pub use settle::Settled;
 pub use state::{Bus, Chassis, EMPTY_CHASSIS};
 pub use step::Step;

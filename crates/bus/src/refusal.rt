@@ -1,4 +1,4 @@
-// Why something is refused, and the number that each refusal is answered by.
+// Why something is refused, the number that each refusal is answered by, and what comes with one.
 ghost use Rattle.std.specs.Prelude.{◌≡◌};
 ghost use Rattle.bus.specs.Told.{number_of};
 
@@ -28,4 +28,11 @@ impl From<Refusal> for u8 {
     fn from(refusal: Refusal) -> u8 {
         refusal as u8
     }
+}
+
+// Why something is refused, and what is handed back in place of what was asked for.
+#[derive(Clone, Copy)]
+pub struct Refused<T> {
+    pub refusal: Refusal,
+    pub left: T,
 }

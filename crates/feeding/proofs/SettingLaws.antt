@@ -2,11 +2,12 @@
 use mathlib.Core.Path.{◌≡◌, refl, subst}
 use Rattle.std.specs.Prelude.{Result, Ok, Err}
 use borrow.Author.Tests.{ne_eqb}
-use Rattle.bus.specs.Setup.{setup_of}
+use Rattle.bus.specs.Setup.{empty_bus, setup_of}
 use Rattle.bus.specs.Told.{set_up}
-use Rattle.bus.specs.declared.refusal.Refusal.{Refusal}
+use Rattle.bus.specs.declared.refusal.Refused.{Refused}
 use Rattle.bus.specs.declared.state.Bus.{Bus}
 use Rattle.bus.specs.declared.state.Chassis.{Chassis}
+use Rattle.bus.proofs.SetUp.{refused_empty}
 use Rattle.bus.proofs.ToldLaws.{never_accepted}
 use Rattle.text.specs.Frames.{SetupLine}
 use Rattle.text.specs.Told.{refusal_of, column_of, setup_told}
@@ -29,10 +30,11 @@ line_refused found refused number column line is = subst (ToldOf (Err refused)) 
     by_cases (WrongCharacter column) = (refl, refl)
 
 module _ (chassis : Chassis) (line : SetupLine) (right : setup_told (Ok chassis) ≡ line) where
-  pub setup_refused : (refusal : Refusal) (refused : RefusedLine) → refused.refusal ≡ refusal → refused.column ≡ 0 → set_up (Err refusal) ≡ setup_of chassis
-      → ToldOf (Err refused) line
-  setup_refused refusal refused number column is =
-      subst (ToldOf (Err refused)) right (rw (← is, ne_eqb _ _ (never_accepted refusal), number, column) (refl, refl))
+  pub setup_refused : (given : Refused Bus) (refused : RefusedLine) → refused.refusal ≡ given.refusal → refused.column ≡ 0
+      → set_up (Err given) ≡ setup_of chassis → ToldOf (Err refused) line
+  setup_refused given refused number column is =
+      let empty : given.left ≡ empty_bus = refused_empty chassis given is in
+      subst (ToldOf (Err refused)) right (rw (← is, ne_eqb _ _ (never_accepted given.refusal), number, column, empty) (refl, refl))
 
   pub setup_accepted : (bus : Bus) → set_up (Ok bus) ≡ setup_of chassis → ToldOf (Ok bus) line
   setup_accepted bus is = subst (ToldOf (Ok bus)) right (rw (← is) (refl, refl))

@@ -6,7 +6,7 @@ ghost use Rattle.session.specs.World.{fresh, set_up_by, setup_answer};
 ghost use Rattle.feeding.specs.Told.{set_up_told, answer_told, session_told};
 
 use bus::numbers::ACCEPTED;
-use bus::{Bus, EMPTY_CHASSIS, Refusal};
+use bus::{Bus, EMPTY_CHASSIS, Refusal, Refused};
 use events::Answer;
 use reading::setup_line;
 use sense::{freed, setup};
@@ -42,11 +42,14 @@ impl From<Fault> for RefusedLine {
     }
 }
 
-impl From<Refusal> for RefusedLine {
-    ghost from_gives = { λ refusal refused. (refused.refusal ≡ refusal) × (refused.column ≡ 0) };
+impl From<Refused<Bus>> for RefusedLine {
+    ghost from_gives = { λ given refused. (refused.refusal ≡ given.refusal) × (refused.column ≡ 0) };
 
-    fn from(refusal: Refusal) -> RefusedLine {
-        RefusedLine { refusal, column: 0 }
+    fn from(given: Refused<Bus>) -> RefusedLine {
+        RefusedLine {
+            refusal: given.refusal,
+            column: 0,
+        }
     }
 }
 

@@ -2,7 +2,7 @@
 #![tactic(auto)]
 
 use bus::numbers::{ACCEPTED, NOBODY};
-use bus::{Bus, Chassis, EMPTY_CHASSIS, Step};
+use bus::{Bus, Chassis, Settled, Step};
 use memory::{EIGHT_BIT_PAGE, Moved, SIXTEEN_BIT_PAGE, Slave};
 use phases::Phase;
 use phases::numbers::*;
@@ -85,11 +85,11 @@ fn chassis(fitted: u16, pages: [u8; 16]) -> Chassis {
     Chassis { fitted, pages }
 }
 
-// The answer's number on a line; the bus, after a refusal that of an empty chassis.
+// The answer's number on a line; the bus.
 fn show_setup(rt: &impl Print, pages: [u8; 16]) -> io::Result<Bus> {
     let (answer, bus) = match setup(chassis(0x000A, pages)) {
         Ok(bus) => (ACCEPTED, bus),
-        Err(refusal) => (refusal.into(), freed(EMPTY_CHASSIS)),
+        Err(refused) => (refused.refusal.into(), refused.left),
     };
     println!(rt; "{answer:02X}")?;
     Ok(bus)
@@ -159,7 +159,7 @@ fn setups_and_senses(rt: &impl Print) -> io::Result<()> {
 
 // These cards are fitted, and memory of eight bits is on each page.
 fn set_up(fitted: u16) -> Bus {
-    setup(chassis(fitted, [1; 16])).unwrap_or(freed(EMPTY_CHASSIS))
+    setup(chassis(fitted, [1; 16])).unwrap_or_else(|refused| refused.left)
 }
 
 // Cards 1 and 3 are fitted, and card 3 is granted.
@@ -213,12 +213,13 @@ fn four_nine_ten(rt: &impl Print) -> io::Result<()> {
     show_row(rt, &[granted.phase, granted.granted])
 }
 
-// Answer, looks, lines; after a refusal no look, and the lines of the state that was given.
+// Answer, looks, lines.
 fn show_settle(rt: &impl Print, given: Bus, cards: &[u8]) -> io::Result<()> {
-    let (answer, looks, bus) = match settle(given, cards) {
-        Ok(settled) => (ACCEPTED, settled.looks, settled.bus),
-        Err(refusal) => (refusal.into(), 0, given),
+    let (answer, settled) = match settle(given, cards) {
+        Ok(settled) => (ACCEPTED, settled),
+        Err(refused) => (refused.refusal.into(), refused.left),
     };
+    let Settled { bus, looks } = settled;
     println!(rt; "{answer:02X}{looks:02X}{:02X}", bus.lines())
 }
 

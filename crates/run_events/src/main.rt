@@ -2,11 +2,11 @@
 // stdout was written by hand from 01.
 #![tactic(auto)]
 
-use bus::{Bus, Chassis, EMPTY_CHASSIS};
+use bus::{Bus, Chassis};
 use events::Answer;
 use judgement::{Event, PERMANENT_MASTER};
 use phases::Kind;
-use sense::{freed, setup};
+use sense::setup;
 use std::io;
 use stepping::step;
 
@@ -41,7 +41,7 @@ fn all_fitted() -> Bus {
         fitted: 0xFFFF,
         pages: [1; 16],
     };
-    setup(chassis).unwrap_or(freed(EMPTY_CHASSIS))
+    setup(chassis).unwrap_or_else(|refused| refused.left)
 }
 
 // What the permanent master asks for at address 4.

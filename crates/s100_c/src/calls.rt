@@ -16,9 +16,9 @@ ghost use Rattle.s100_c.specs.Calls.{
 use crate::answer_layout::put_answer;
 use crate::layout::{STATE_SIZE, bus_in, put_bus};
 use bus::numbers::ACCEPTED;
-use bus::{Chassis, EMPTY_CHASSIS, Refusal};
+use bus::{Chassis, Refusal};
 use judgement::Event;
-use sense::{freed, setup};
+use sense::setup;
 use settling::settle;
 use stepping::step;
 
@@ -41,9 +41,9 @@ pub extern "C" fn s100_setup(fitted: u16, pages: &[u8], state: &mut [u8]) -> u8
             put_bus(bus, state);
             ACCEPTED
         }
-        Err(refusal) => {
-            put_bus(freed(EMPTY_CHASSIS), state);
-            u8::from(refusal)
+        Err(refused) => {
+            put_bus(refused.left, state);
+            u8::from(refused.refusal)
         }
     }
 }
@@ -96,15 +96,11 @@ pub extern "C" fn s100_settle(state: &mut [u8], cards: &[u8], looks: &mut usize)
     let Some(state) = state.as_mut_array::<STATE_SIZE>() else {
         return u8::from(Refusal::WrongLength);
     };
-    match settle(bus_in(state), cards) {
-        Ok(settled) => {
-            put_bus(settled.bus, state);
-            *looks = settled.looks;
-            ACCEPTED
-        }
-        Err(refusal) => {
-            *looks = 0;
-            u8::from(refusal)
-        }
-    }
+    let (answer, settled) = match settle(bus_in(state), cards) {
+        Ok(settled) => (ACCEPTED, settled),
+        Err(refused) => (u8::from(refused.refusal), refused.left),
+    };
+    put_bus(settled.bus, state);
+    *looks = settled.looks;
+    answer
 }

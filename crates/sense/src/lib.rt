@@ -8,17 +8,21 @@ ghost use Rattle.bus.specs.Setup.{setup_of};
 ghost use Rattle.bus.specs.Told.{set_up};
 
 use bus::numbers::*;
-use bus::{Bus, Chassis, Refusal};
+use bus::{Bus, Chassis, EMPTY_CHASSIS, Refusal, Refused};
 use cards::{all_at_most, card_in, counted, is_within, some_card};
 use phases::Phase;
 
-pub fn setup(chassis: Chassis) -> Result<Bus, Refusal>
+// The bus that comes with a refusal is that of an empty chassis.
+pub fn setup(chassis: Chassis) -> Result<Bus, Refused<Bus>>
     ensures { set_up result ≡ setup_of chassis }
 {
     if codes_known(chassis) {
         Ok(freed(chassis))
     } else {
-        Err(Refusal::BadPage)
+        Err(Refused {
+            refusal: Refusal::BadPage,
+            left: freed(EMPTY_CHASSIS),
+        })
     }
 }
 

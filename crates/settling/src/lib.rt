@@ -1,21 +1,33 @@
 // Settle: looks in list order until the lines are settled.
 #![tactic(auto)]
 
-ghost use Rattle.std.specs.Prelude.{◌≡◌, cond};
+ghost use Rattle.std.specs.Prelude.{◌≡◌, Err, cond};
 ghost use Rattle.bus.specs.Refusal.{unsettled};
 ghost use Rattle.bus.specs.Settle.{leading_looks, list_refusal, never_settles, settle_refused, accepted_after, settle_of};
-ghost use Rattle.bus.specs.Told.{answered, settlement};
+ghost use Rattle.bus.specs.Told.{number_of, answered, settlement};
 
-use bus::{Bus, Refusal, Settled};
+use bus::{Bus, Refusal, Refused, Settled};
 use cards::{all_at_most, all_in};
 use phases::Phase;
 use sense::makes_sense;
 
-pub fn settle(bus: Bus, cards: &[u8]) -> Result<Settled, Refusal>
-    ensures { settlement bus result ≡ settle_of bus cards.now }
+// A refusal leaves the state alone and counts no look.
+pub fn settle(bus: Bus, cards: &[u8]) -> Result<Settled, Refused<Settled>>
+    ensures { settlement result ≡ settle_of bus cards.now }
 {
-    check_list(bus, cards)?;
-    settle_by(bus, cards)
+    match check_list(bus, cards) {
+        Ok(()) => settle_by(bus, cards),
+        Err(refusal) => Err(left_alone(bus, refusal)),
+    }
+}
+
+fn left_alone(bus: Bus, refusal: Refusal) -> Refused<Settled>
+    ensures { settlement (Err result) ≡ settle_refused (number_of refusal) bus }
+{
+    Refused {
+        refusal,
+        left: Settled { bus, looks: 0 },
+    }
 }
 
 // What is wrong with the state or the list, before any look.
@@ -39,8 +51,8 @@ fn check_list(bus: Bus, cards: &[u8]) -> Result<(), Refusal>
 }
 
 // The looks themselves.
-fn settle_by(start: Bus, cards: &[u8]) -> Result<Settled, Refusal>
-    ensures { settlement start result ≡ cond (never_settles start cards.now)
+fn settle_by(start: Bus, cards: &[u8]) -> Result<Settled, Refused<Settled>>
+    ensures { settlement result ≡ cond (never_settles start cards.now)
         (settle_refused unsettled start)
         (accepted_after (leading_looks start cards.now) start cards.now) }
 {
@@ -57,6 +69,6 @@ fn settle_by(start: Bus, cards: &[u8]) -> Result<Settled, Refusal>
             looks: cards.len(),
         })
     } else {
-        Err(Refusal::Unsettled)
+        Err(left_alone(start, Refusal::Unsettled))
     }
 }

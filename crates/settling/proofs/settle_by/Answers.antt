@@ -25,4 +25,4 @@ returns-then-is_settled-2 c =
 pub returns-else-is_settled-2 : goal.returns-else-is_settled-2
 returns-else-is_settled-2 c =
     let reached = subst (λ n. Reached c.args.start c.args.cards.now n c.loop-n.bus) (le_antisymm c.loop-n.auto.n-end c.loop-n-test.false) c.loop-n.invariant in
-    never c.args.start c.args.cards.now reached (sym c.is_settled-2.ensures ∙ c.if-is_settled-2.false)
+    c.left_alone.ensures ∙ never c.args.start c.args.cards.now reached (sym c.is_settled-2.ensures ∙ c.if-is_settled-2.false)
