@@ -52,12 +52,12 @@ module _ (bus : Bus) (cards : List ℕ) where
   unfolding after_looks_of
   reached_at_first = (refl, λ k h. absurd (not-suc-le-zero h))
 
-  settled_after_holds : (n : ℕ) {reached : Bus} → reached ≡ after_looks_of bus (take n cards) → settled_after bus cards n ≡ is_settled reached
+  pub settled_after_holds : (n : ℕ) {reached : Bus} → reached ≡ after_looks_of bus (take n cards) → settled_after bus cards n ≡ is_settled reached
   unfolding settled_after
   settled_after_holds n e = ap is_settled (sym e)
 
   -- not settled after n looks either
-  not_yet : (n : ℕ) {reached : Bus} → Reached n reached → is_settled reached ≡ false → NotBefore (suc n)
+  pub not_yet : (n : ℕ) {reached : Bus} → Reached n reached → is_settled reached ≡ false → NotBefore (suc n)
   not_yet n {reached} r f k h =
       ⊎_elim (λ (s : k ≡ n). ap (settled_after bus cards) s ∙ settled_after_holds n r.0 ∙ f) (r.1 k) (last_or_below h)
 

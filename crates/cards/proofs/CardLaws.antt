@@ -1,16 +1,19 @@
 -- Sets of sixteen cards: the short tests of the code say the same as the definitions, which ask card by card.
-use Prim.Native.Nat.{ℕ, ◌^◌, ◌<◌}
+use Prim.Native.Nat.{ℕ, ◌+◌, ◌/◌, ◌^◌, ◌<◌, ◌≤◌}
 use mathlib.Core.Path.{◌≡◌, refl, sym, ap, ap₂, ◌∙◌}
 use mathlib.Core.Logic.{◌⊎◌, inl, inr}
 use mathlib.Core.Bool.{Bool, true, false, not, ◌||◌, and-eq-true_iff, true≢false}
+use native.Mathlib.Nat.{le_dest, div-eq_of_lt, lt_of_lt_of_le, add-zero}
+use native.Mathlib.Decide.{dec_lt}
+use native.Mathlib.Omega.{arith}
 use lib.Dec.{eqb, ltb}
 use lib.Bits.{bit_or, or_lt}
-use lib.Pow.{pow_pos}
+use lib.Pow.{pow_pos, pow_mono, shr-shr}
 use borrow.Author.Tests.{ltb-true, lt-ltb, eqb-true, eq-eqb, not-true, not-false}
 use Rattle.words.specs.Bits.{bit_at}
 use Rattle.words.specs.Below.{all_below}
 use Rattle.words.proofs.TestLaws.{true_or_false, tests_same, then_of, of_then}
-use Rattle.words.proofs.BitLaws.{bits_same, bit_above, bit_or_holds}
+use Rattle.words.proofs.BitLaws.{bits_same, bit_above, bit_high, bit_or_holds}
 use Rattle.words.proofs.BelowLaws.{all_at, all_of, some_not}
 use Rattle.cards.specs.Cards.{card_in, some_card, is_within}
 
@@ -102,3 +105,34 @@ none_in_empty n = go (true_or_false (card_in 0 n))
     go : (card_in 0 n ≡ true) ⊎ (card_in 0 n ≡ false) → card_in 0 n ≡ false
     go (inl c) = card_bit 0 n (card_below 0 n c) ∙ bit_above n 0 (pow_pos n)
     go (inr f) = f
+
+-- ---- What is left of a set from card n on, card n as card 0
+
+module _ (cards n : ℕ) {left : ℕ} (from : left ≡ cards / 2 ^ n) where
+  -- its first card
+  pub left_first : n < 16 → card_in left 0 ≡ card_in cards n
+  left_first h =
+      ap (λ (x : ℕ). bit_at x 0) from ∙ bit_high cards n 0 ∙ ap (bit_at cards) (add-zero n) ∙ sym (card_bit cards n h)
+
+  -- what is left after that card
+  pub left_next : left / 2 ≡ cards / 2 ^ (n + 1)
+  left_next = ap (λ (x : ℕ). x / 2) from ∙ shr-shr cards n 1
+
+  -- where some card is left, n is one of the sixteen
+  pub left_some : cards < 2 ^ 16 → 0 < left → n < 16
+  left_some h some = go (dec_lt n 16)
+    where
+      go : Dec (n < 16) → n < 16
+      go (yes below) = below
+      go (no beyond) = omega (arith, from ∙ div-eq_of_lt (lt_of_lt_of_le h (pow_mono {i = 16} {j = n} (omega arith))))
+
+  -- where none is, no card from n on is in the set
+  pub left_none : left ≤ 0 → (k : ℕ) → n ≤ k → k < 16 → card_in cards k ≡ false
+  left_none none k l h =
+      let i = le_dest l in
+      let empty : left ≡ 0 = omega arith in
+      card_bit cards k h
+      ∙ ap (bit_at cards) (sym i.1)
+      ∙ sym (bit_high cards n i.0)
+      ∙ ap (λ (x : ℕ). bit_at x i.0) (sym from ∙ empty)
+      ∙ bit_above i.0 0 (pow_pos i.0)

@@ -1,6 +1,6 @@
 -- What an accepted event has passed, and that one which passes everything is accepted.
 use Prim.Native.Nat.{ℕ, ◌/◌, ◌<◌}
-use mathlib.Core.Path.{◌≡◌, refl, sym}
+use mathlib.Core.Path.{◌≡◌, refl, sym, ap, ◌∙◌}
 use mathlib.Core.Logic.{⊎_elim}
 use mathlib.Core.Bool.{false, ◌||◌, and-eq-true_iff, or-false}
 use mathlib.Core.List.{List}
@@ -13,6 +13,8 @@ use Rattle.words.proofs.TestLaws.{true_or_false}
 use Rattle.words.proofs.FirstLaws.{first_none}
 use Rattle.bus.specs.Sense.{is_senseless}
 use Rattle.bus.specs.declared.state.Bus.{Bus}
+use Rattle.bus.specs.declared.step.Step.{Step}
+use Rattle.judgement.specs.Table.{row_of}
 use Rattle.judgement.specs.Refusals.{
   has_wrong_buffers,
   is_malformed,
@@ -24,7 +26,7 @@ use Rattle.judgement.specs.Refusals.{
   is_odd_word,
   is_absent,
 }
-use Rattle.judgement.specs.Judge.{sound_refusal, refusal_of, number_given, verdict_on, sound_verdict}
+use Rattle.judgement.specs.Judge.{Refused, Takes, sound_refusal, refusal_of, number_given, verdict_on, sound_verdict}
 use Rattle.judgement.specs.Promises.{VerdictNumber, VerdictStep, LengthsAsked, MemoryAbsent, PortAbsent}
 use Rattle.judgement.specs.declared.event.Event.{Event}
 
@@ -92,6 +94,25 @@ verdict_number bus event = go (sound_refusal bus event)
 pub verdict_step : VerdictStep
 unfolding sound_verdict
 verdict_step bus event e = rw e
+
+-- the other way round: what a refusal says, and what a step
+pub refused_says : (bus : Bus) (event : Event) (number : ℕ) → Refused number ≡ sound_verdict bus event
+    → (sound_refusal bus event ≡ number) × (number ≡ 0 → ⊥)
+refused_says bus event number e =
+    let given : sound_refusal bus event ≡ number = sym (verdict_number bus event) ∙ ap number_given (sym e) in (
+      given,
+      λ none.
+          let step : Refused number ≡ Takes (row_of event.kind).step = e ∙ verdict_step bus event (given ∙ none) in
+          let never : ◌≡◌ {A = ℕ} 0 1 = cc in
+          omega arith,
+    )
+
+pub taken_says : (bus : Bus) (event : Event) (step : Step) → Takes step ≡ sound_verdict bus event
+    → (sound_refusal bus event ≡ 0) × (step ≡ (row_of event.kind).step)
+taken_says bus event step e =
+    let none : sound_refusal bus event ≡ 0 = sym (verdict_number bus event) ∙ ap number_given (sym e) in
+    let same : Takes step ≡ Takes (row_of event.kind).step = e ∙ verdict_step bus event none in
+    (none, cc)
 
 -- ---- The lengths
 

@@ -1,14 +1,17 @@
--- The table's rows and its columns.
-use Prim.Native.Nat.{ℕ, ◌<◌, ◌≤◌}
+-- The table's rows and its columns, and the pages.
+use Prim.Native.Nat.{ℕ, ◌/◌, ◌<◌, ◌≤◌}
 use mathlib.Core.Path.{◌≡◌, refl, sym, ap, ◌∙◌}
 use mathlib.Core.Bool.{Bool, true, false, not, cond, ◌&&◌, ◌||◌, true≢false}
+use mathlib.Core.List.{List}
 use native.Mathlib.Decide.{dec_lt}
+use lib.ListN.{length, get_or-eq_default}
 use native.Mathlib.Omega.{arith}
 use lib.Dec.{eqb, leb, ltb, lit≤}
 use borrow.Author.Tests.{le-leb, lt-leb, le-ltb}
 use Rattle.words.specs.Below.{all_below}
 use Rattle.words.specs.Among.{beside, has_beside, every_row}
 use Rattle.words.proofs.BelowLaws.{same_tests_below}
+use Rattle.judgement.specs.Refusals.{page_at}
 use Rattle.words.proofs.RowLaws.{EachRow, end, ◌and◌, by_rows, rows_pass, no_row_beside, rows_only}
 use Rattle.phases.specs.Phase as Phase
 use Rattle.phases.specs.Kind as Kind
@@ -49,6 +52,14 @@ cycle_row kind =
 
     other : {A : Type 0} → false ≡ true → A
     other e = absurd (true≢false (sym e))
+
+-- ---- Pages
+
+-- beyond the sixteen pages there is none
+pub no_page : (pages : List ℕ) → length pages ≡ 16 → (address : ℕ) → 0xFFFF < address → 0 ≡ page_at pages address
+no_page pages size address h =
+    let beyond : length pages ≤ address / 0x1000 = omega (arith, size) in
+    sym (get_or-eq_default pages 0 beyond)
 
 -- ---- The kinds by their numbers
 

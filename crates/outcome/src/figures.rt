@@ -1,13 +1,13 @@
 // The outcome for a card, and what is told of it in numbers.
 ghost use Rattle.std.specs.Prelude.{◌≡◌};
-ghost use Rattle.outcome.specs.Outcomes.{figures_of};
+ghost use Rattle.outcome.specs.Outcomes.{figures_of, Refused};
 ghost use Rattle.outcome.specs.Told.{outcome_in};
 
 use bus::Refusal;
 use bus::numbers::{ACCEPTED, NOBODY};
 
 // There is no line at which the card loses.
-const NO_LINE: u8 = 0xFF;
+pub const NO_LINE: u8 = 0xFF;
 
 // The priority line at which a card loses, 3 for weight 8 to 0 for weight 1, and the card that it loses to.
 #[derive(Clone, Copy, Debug, PartialEq, Eq)]
@@ -42,16 +42,28 @@ impl Figures {
     pub fn of(card: u8, told: Result<Outcome, Refusal>) -> Figures
         ensures { result ≡ figures_of card (outcome_in told) }
     {
-        let (answer, loss) = match told {
-            Err(refusal) => (u8::from(refusal), NO_LOSS),
-            Ok(Outcome::Wins) => (ACCEPTED, NO_LOSS),
-            Ok(Outcome::Loses(loss)) => (ACCEPTED, loss),
+        let loss = match told {
+            Err(refusal) => return Figures::refused(card, u8::from(refusal)),
+            Ok(Outcome::Wins) => NO_LOSS,
+            Ok(Outcome::Loses(loss)) => loss,
         };
         Figures {
-            answer,
+            answer: ACCEPTED,
             card,
             line: loss.line,
             rival: loss.rival,
+        }
+    }
+
+    // A refusal by any number, one that is no refusal's too.
+    pub fn refused(card: u8, number: u8) -> Figures
+        ensures { result ≡ figures_of card (Refused number) }
+    {
+        Figures {
+            answer: number,
+            card,
+            line: NO_LINE,
+            rival: NOBODY,
         }
     }
 }

@@ -5,4 +5,4 @@ mod asking;
 mod figures;
 
 pub use asking::outcome_for;
-pub use figures::{Figures, Loss, Outcome};
+pub use figures::{Figures, Loss, NO_LINE, Outcome};

@@ -71,7 +71,9 @@ fn take_turns<R: Read, W: Write>(
 impl Places<'_> {
     // It reads only once every complete line is taken, so that nobody waits for an answer or a picture while the program waits for more. A refused
     // setup line ends the run: nothing more is read, as if the input ended there.
-    fn fill<R: Read>(&mut self, wanted: u8, input: &mut R, fed: Fed) -> io::Result<Filled> {
+    fn fill<R: Read>(&mut self, wanted: u8, input: &mut R, fed: Fed) -> io::Result<Filled>
+        ensures { take fed.held self.new.text.now ≡ take fed.held self.old.text.now }
+    {
         if matches!(fed.session.stage, Stage::Ended) {
             Ok(Filled::Ended(fed.held))
         } else if has_room(wanted, self.out, fed.written) {

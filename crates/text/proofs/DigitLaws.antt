@@ -98,6 +98,20 @@ six_digits at line h =
     ∙ four_more _ (at + 2) line (omega (arith, h))
     ∙ omega (arith, four_digits (at + 2) line (omega (arith, h)))
 
+-- a byte in two digits
+pub digits_two : (n : ℕ) → digits_of 2 n ≡ digit_of (n / 16 % 16) ∷ digit_of (n % 16) ∷ []
+unfolding digits_of
+digits_two n = refl
+
+pub small_two : (at : ℕ) (line : List ℕ) → at + 2 ≤ length line → every_listed is_digit line ≡ true → number_of (digits_from at 2 line) < 256
+small_two at line h e =
+    omega (
+      arith,
+      two_digits at line h,
+      value_small (get_or line at 0) (every_at is_digit line e at (omega (arith, h))),
+      value_small (get_or line (at + 1) 0) (every_at is_digit line e (at + 1) (omega (arith, h))),
+    )
+
 pub digits_long : (count n : ℕ) → length (digits_of count n) ≡ count
 unfolding digits_of
 digits_long zero n = refl

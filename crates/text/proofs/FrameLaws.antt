@@ -1,9 +1,9 @@
 -- The line in so many bytes, and what a text begins with.
-use mathlib.Core.Path.{◌≡◌, refl, sym, ap, ◌∙◌}
+use mathlib.Core.Path.{◌≡◌, refl, sym, ap, subst, ◌∙◌}
 use mathlib.Core.Logic.{⊎_elim}
 use mathlib.Core.Bool.{Bool, true, false, cond}
 use mathlib.Core.List.{List}
-use Prim.Native.Nat.{ℕ, ◌+◌, ◌-◌, ◌<◌}
+use Prim.Native.Nat.{ℕ, ◌+◌, ◌-◌, ◌<◌, ◌≤◌}
 use native.Mathlib.Omega.{arith}
 use lib.Dec.{eqb}
 use lib.ListN.{length, get_or, take, drop, length-drop}
@@ -19,8 +19,8 @@ use Rattle.text.specs.Faults.{fault, leading_digits, fault_of}
 use Rattle.text.specs.Frames.{BadLine, Line, Frame, Bad, Unended, event_digits, event_in, bad_line, line_in, next_line, line_number, line_column, line_bytes}
 use Rattle.text.specs.Promises.{LinesTold}
 use Rattle.text.proofs.DigitLaws.{digit_kinds}
-use Rattle.text.proofs.FaultLaws.{leading_within, leading_digits_holds, no_fault}
-use Rattle.text.proofs.NewlineLaws.{unended, line_within, newline_at, line_past}
+use Rattle.text.proofs.FaultLaws.{leading_within, leading_digits_holds, leads_all, all_digits_of, no_fault}
+use Rattle.text.proofs.NewlineLaws.{unended, line_within, newline_at, whole_line, line_past}
 
 -- no digit ends a line
 digit_stays : (b : ℕ) → is_digit b ≡ true → b ≡ newline → ⊥
@@ -45,6 +45,17 @@ frame_in line size all = rw (digits_whole line all, eq-eqb (length line) event_d
 pub bad_in : (line : List ℕ) → is_digits event_digits line ≡ false → Line.Bad (bad_line line) ≡ line_in line
 bad_in line wrong = rw wrong refl
 
+-- where so many bytes aren't all digits, neither is the line in them
+pub not_framed : (line : List ℕ) → length line ≡ event_digits → (leading_digits line ≡ event_digits → ⊥) → is_digits event_digits (first_line line) ≡ false
+not_framed line size fewer =
+    ⊎_elim
+    (λ right.
+    let both = all_digits_of event_digits (first_line line) right in
+    let whole = whole_line line (both.0 ∙ sym size) in
+    absurd (fewer (leads_all line (subst (λ (l : List ℕ). every_listed is_digit l ≡ true) whole both.1) ∙ size)))
+    (λ wrong. wrong)
+    (true_or_false (is_digits event_digits (first_line line)))
+
 -- digits are passed over where the end of a line is looked for
 pub digits_passed : (line : List ℕ) (count leading end : ℕ) → length line ≡ count → leading ≡ leading_digits line
     → end ≡ length (first_line (take (count - leading) (drop leading line))) → leading + end ≡ length (first_line line)
@@ -66,6 +77,10 @@ other_length line other = rw (ne_eqb (length line) event_digits other) refl
 
 pub ended_next : (text : List ℕ) → has_newline text ≡ true → line_in (first_line text) ≡ next_line text
 ended_next text has = rw has refl
+
+pub unended_next : (text : List ℕ) → length text ≤ length (first_line text) → Line.Unended ≡ next_line text
+unended_next text whole =
+    ⊎_elim (λ has. absurd (omega (arith, whole, line_within text has))) (λ has. rw has refl) (true_or_false (has_newline text))
 
 -- ---- And back: what the next line says of the text
 

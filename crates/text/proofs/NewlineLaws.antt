@@ -7,7 +7,7 @@ use Prim.Native.Nat.{ℕ, zero, suc, ◌+◌, ◌<◌, ◌≤◌}
 use native.Mathlib.Omega.{arith}
 use lib.Dec.{eqb}
 use lib.ListN.{length, get_or, take, drop, length-append}
-use lib.Seq.{drop-cons, take_at, get_or_at}
+use lib.Seq.{drop-cons, drop-length, take_at, get_or_at}
 use borrow.Author.Tests.{eqb-true, eqb-false, eq-eqb, ne_eqb}
 use Rattle.std.specs.Prelude.{Some, None}
 use Rattle.std.specs.List.{position, position_or_len}
@@ -66,10 +66,18 @@ pub line_front : (text : List ℕ) (end : ℕ) → end ≡ length (first_line te
 line_front text end e within =
     ap (take end) (splits text (ends_within text end e within)) ∙ take_at (first_line text) (newline ∷ rest_of text) end (sym e)
 
+pub line_at : (text : List ℕ) (i : ℕ) → i < length text → get_or text i 0 ≡ newline → first_line (drop i text) ≡ []
+unfolding first_line
+line_at text i h e = ap first_line (drop-cons text i 0 h) ∙ rw (eq-eqb (get_or text i 0) newline e) refl
+
 pub line_on : (text : List ℕ) (i : ℕ) → i < length text → (get_or text i 0 ≡ newline → ⊥)
     → length (first_line (drop i text)) ≡ suc (length (first_line (drop (suc i) text)))
 unfolding first_line
 line_on text i h e = ap (λ (l : List ℕ). length (first_line l)) (drop-cons text i 0 h) ∙ rw (ne_eqb (get_or text i 0) newline e) refl
+
+pub line_none : (text : List ℕ) → first_line (drop (length text) text) ≡ []
+unfolding first_line
+line_none text = ap first_line (drop-length text)
 
 pub line_short : (text : List ℕ) → length (first_line text) ≤ length text
 line_short text =

@@ -1,5 +1,5 @@
 // The two kinds of line that are read: where each field begins on them, and what is told of a line that is no event's.
-use crate::fault::Fault;
+pub use crate::fault::Fault;
 
 // The byte that ends a line.
 pub const NEWLINE: u8 = b'\n';
