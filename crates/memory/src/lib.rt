@@ -4,7 +4,7 @@
 ghost use Rattle.std.specs.Prelude.{◌≡◌, ◌<◌};
 
 // What a cycle event moved: the datum, and how many bus cycles that took. Where nothing was moved, there is no such value.
-#[derive(Clone, Copy, Debug, PartialEq, Eq)]
+#[derive(Clone, Copy, PartialEq, Eq)]
 pub struct Moved {
     pub datum: u16,
     pub cycles: u8,
@@ -39,7 +39,7 @@ pub const SIXTEEN_BIT_PAGE: u8 = 2;
 
 // What answers a cycle: the page that its address lies in, by its code.
 // Kept: a code and no enum, since a state's page may have any number, and the promises of word cycles (`WordMoves`) hold for any.
-#[derive(Clone, Copy, Debug, PartialEq, Eq)]
+#[derive(Clone, Copy, PartialEq, Eq)]
 pub struct Slave {
     pub code: u8,
 }

@@ -10,13 +10,13 @@ use bus::numbers::{ACCEPTED, NOBODY};
 pub const NO_LINE: u8 = 0xFF;
 
 // The priority line at which a card loses, 3 for weight 8 to 0 for weight 1, and the card that it loses to.
-#[derive(Clone, Copy, Debug, PartialEq, Eq)]
+#[derive(Clone, Copy, PartialEq, Eq)]
 pub struct Loss {
     pub line: u8,
     pub rival: u8,
 }
 
-#[derive(Clone, Copy, Debug, PartialEq, Eq)]
+#[derive(Clone, Copy, PartialEq, Eq)]
 pub enum Outcome {
     Wins,
     Loses(Loss),
@@ -24,7 +24,7 @@ pub enum Outcome {
 
 // Kept: numbers, since an outcome line and the C interface show them (`figures_of`), FF where there is neither line nor rival.
 // What is told of it: the answer's number, the card that was asked about, the line and the rival.
-#[derive(Clone, Copy, Debug, PartialEq, Eq)]
+#[derive(Clone, Copy, PartialEq, Eq)]
 pub struct Figures {
     pub answer: u8,
     pub card: u8,

@@ -2,7 +2,7 @@
 ghost use Rattle.std.specs.Prelude.{◌≡◌, ◌||◌};
 ghost use Rattle.phases.specs.Kinds.{number_of_kind, kind_of, Numbered};
 
-#[derive(Clone, Copy, Debug, PartialEq, Eq)]
+#[derive(Clone, Copy, PartialEq, Eq)]
 pub enum Kind {
     Request = 0x01,
     Look,
@@ -22,7 +22,7 @@ pub enum Kind {
 }
 
 // A number that no kind of event has.
-#[derive(Clone, Copy, Debug, PartialEq, Eq)]
+#[derive(Clone, Copy, PartialEq, Eq)]
 pub struct UnknownKind(pub u8);
 
 impl TryFrom<u8> for Kind {

@@ -3,7 +3,7 @@ ghost use Rattle.std.specs.Prelude.{◌≡◌};
 ghost use Rattle.phases.specs.Phases.{number_of_phase, phase_of, Known};
 
 // In the order of their numbers, from 0 on. A state's phase may be another number, and is none of these then.
-#[derive(Clone, Copy, Debug, PartialEq, Eq)]
+#[derive(Clone, Copy, PartialEq, Eq)]
 pub enum Phase {
     Free,
     Arbitration,
@@ -14,7 +14,7 @@ pub enum Phase {
 }
 
 // A number that no phase has.
-#[derive(Clone, Copy, Debug, PartialEq, Eq)]
+#[derive(Clone, Copy, PartialEq, Eq)]
 pub struct UnknownPhase(pub u8);
 
 impl TryFrom<u8> for Phase {

@@ -23,7 +23,7 @@ pub struct Moment {
 }
 
 // What the pins of a picture tell.
-#[derive(Clone, Copy, Debug, PartialEq, Eq)]
+#[derive(Clone, Copy, PartialEq, Eq)]
 pub struct Seen {
     // None where no phase has the signals.
     pub phase: Option<Phase>,

@@ -4,7 +4,7 @@ ghost use Rattle.session.specs.World.{wanted_by};
 
 use bus::Bus;
 
-#[derive(Clone, Copy, Debug, PartialEq, Eq)]
+#[derive(Clone, Copy, PartialEq, Eq)]
 pub enum Stage {
     // The setup line is still to come.
     Awaiting,
@@ -29,7 +29,7 @@ pub const WANTS_PICTURES: u8 = 1;
 pub const WANTS_OUTCOMES: u8 = 2;
 
 // What is written of a run.
-#[derive(Clone, Copy, Debug, PartialEq, Eq)]
+#[derive(Clone, Copy, PartialEq, Eq)]
 pub enum Wanted {
     // An answer line for each line.
     Answers,

@@ -4,7 +4,7 @@ ghost use Rattle.text.specs.Told.{refusal_of, column_of};
 
 use bus::Refusal;
 
-#[derive(Clone, Copy, Debug, PartialEq, Eq)]
+#[derive(Clone, Copy, PartialEq, Eq)]
 pub enum Fault {
     // The line's, whatever its characters are.
     WrongLength,

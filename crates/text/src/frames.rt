@@ -26,7 +26,7 @@ pub const SETUP_DIGITS: usize = PAGES_AT + 16;
 pub const LONGEST: usize = SETUP_DIGITS;
 
 // A line that is no event's: its bytes, and what is wrong with it.
-#[derive(Clone, Copy, Debug, PartialEq, Eq)]
+#[derive(Clone, Copy, PartialEq, Eq)]
 pub struct BadLine {
     pub size: usize,
     pub fault: Fault,
