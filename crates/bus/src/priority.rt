@@ -6,13 +6,19 @@ use crate::state::Bus;
 use cards::{counted, stays};
 
 impl Bus {
-    // What the priority lines show.
+    // What the priority lines show. No card beyond the highest contender is asked.
     pub fn lines(self) -> u8
         ensures { result ≡ lines_of self }
     {
         let mut lines = 0;
-        for (n, &level) in (0..16).zip(&self.driven) {
-            lines |= counted(self.contenders, n, level);
+        // The contenders from card n on, card n as card 0.
+        let mut left = self.contenders;
+        for &level in &self.driven {
+            if left == 0 {
+                break;
+            }
+            lines |= counted(left, 0, level);
+            left >>= 1;
         }
         lines
     }

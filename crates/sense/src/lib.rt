@@ -87,5 +87,5 @@ fn driving_fits(contenders: u16, driven: [u8; 16]) -> bool
 {
     (0..16)
         .zip(&driven)
-        .all(|(n, &level)| level <= counted(contenders, n, 15))
+        .fold(true, |fits, (n, &level)| fits & (level <= counted(contenders, n, 15)))
 }

@@ -12,7 +12,7 @@ use lib.Dec.{eqb}
 use lib.ListN.{length, get_or, set, take}
 use lib.Seq.{take-length, get_or-set_same, get_or-set_other, set_out}
 use borrow.Author.Tests.{eqb-true, eq-eqb, ne_eqb}
-use Rattle.std.specs.List.{list_all}
+use Rattle.std.specs.List.{list_all, fold}
 use Rattle.std.proofs.lemmas.List.Folds.{list_all_more}
 use Rattle.words.specs.Below.{all_below}
 use Rattle.words.specs.Among.{is_among, every_listed}
@@ -48,6 +48,14 @@ module _ {A : Type 0} (test : A → Bool) (items : List A) (other : A) where
 
   pub one_by_one : list_all test items ≡ all_below (λ i. test (get_or items i other)) (length items)
   one_by_one = ap (list_all test) (sym (take-length items)) ∙ all_leading (length items) (le_refl (length items))
+
+-- and gathered without stopping at the first that fails, from what was found before
+pub all_gathered : {A : Type 0} (test : A → Bool) (so_far : Bool) (items : List A)
+    → fold (λ all item. all && test item) so_far items ≡ (so_far && list_all test items)
+all_gathered test true [] = refl
+all_gathered test false [] = refl
+all_gathered test true (item ∷ items) = all_gathered test (test item) items
+all_gathered test false (item ∷ items) = all_gathered test false items
 
 pub every_listed_holds : (test : ℕ → Bool) (numbers : List ℕ) → list_all test numbers ≡ every_listed test numbers
 unfolding every_listed

@@ -1,16 +1,18 @@
--- What the closure asks of each card.
+-- What the closure gathers of each card.
 use Prim.Native.Nat.{ℕ, ◌≤◌}
 use mathlib.Core.Path.{◌≡◌, refl, ◌∙◌}
-use mathlib.Core.Bool.{Bool, true, false, cond}
+use mathlib.Core.Bool.{Bool, true, false, cond, ◌&&◌}
 use native.Mathlib.Nat.{le_of_eq}
 use native.Mathlib.Omega.{arith}
 use borrow.Author.Rules.{rules}
 use borrow.Author.Tests.{tests, leb-true, le-leb, eqb-true, eq-eqb}
 use lib.Dec.{eqb, leb}
-use Rattle.std.proofs.lemmas.Iterator.Search.{all_from_yields_List}
+use lib.ListN.{length}
+use Rattle.std.proofs.lemmas.Iterator.Consumers.{fold_from_yields_List}
 use Rattle.words.proofs.TestLaws.{tests_same}
 use Rattle.words.proofs.BelowLaws.{all_same}
-use Rattle.words.proofs.PlacedLaws.{each_place_holds, in_place_order}
+use Rattle.words.proofs.ListLaws.{all_gathered}
+use Rattle.words.proofs.PlacedLaws.{placed, each_place_holds, in_place_order}
 use Rattle.cards.specs.Cards.{card_in}
 use Rattle.bus.proofs.SenseLaws.{levels_fit}
 use Rattle.sense.proofs.driving_fits.Goals as goal
@@ -27,9 +29,11 @@ pub returns : goal.returns
 returns c =
     let contenders = c.args.contenders in
     let driven = c.args.driven in
-    all_from_yields_List (λ (p : ℕ × ℕ). leb p.1 (cond (card_in contenders p.0) 15 0)) c.all.new.self _ _ c.all.ensures.ran
-    (in_place_order driven 16 (search rules) (cc) (cc))
-    (λ x b q k. search (rules, tests))
-    ∙ each_place_holds driven 16 (search rules) (λ n level. leb level (cond (card_in contenders n) 15 0))
+    let size : length driven ≡ 16 = search rules in
+    fold_from_yields_List _ (λ fits (p : ℕ × ℕ). fits && leb p.1 (cond (card_in contenders p.0) 15 0)) true _ c.fold.ensures.ran
+    (in_place_order driven 16 size (cc) (cc))
+    (λ fits x b q k. search (rules, tests))
+    ∙ all_gathered (λ (p : ℕ × ℕ). leb p.1 (cond (card_in contenders p.0) 15 0)) true (placed driven 16 size)
+    ∙ each_place_holds driven 16 size (λ n level. leb level (cond (card_in contenders n) 15 0))
     ∙ all_same _ _ 16 (λ k h. at_most_counted (card_in contenders k) _)
-    ∙ levels_fit contenders driven (search rules)
+    ∙ levels_fit contenders driven size

@@ -1,36 +1,37 @@
--- The lines so far are the OR of what the cards passed drive.
-use Prim.Native.Nat.{ℕ}
-use mathlib.Core.Path.{◌≡◌, sym, ap, ◌∙◌}
-use mathlib.Core.Bool.{cond}
+-- The lines so far are the OR of what the cards passed drive, and once no contender is left, the cards beyond add nothing.
+use Prim.Native.Nat.{◌<◌, ◌≤◌}
+use mathlib.Core.Path.{◌≡◌, ◌∙◌}
+use native.Mathlib.Omega.{arith}
 use borrow.Author.Rules.{rules}
 use lib.ListN.{length}
-use Rattle.std.proofs.lemmas.List.{length_push}
 use Rattle.words.specs.Below.{or_below}
-use Rattle.words.proofs.BelowLaws.{or_start, or_next}
-use Rattle.words.proofs.PlacedLaws.{in_place_order, turn_placed, end_placed}
+use Rattle.words.proofs.BelowLaws.{or_start, or_next, or_rest, at_bound}
 use Rattle.lines.specs.Arbitration.{shown}
-use Rattle.cards.specs.Cards.{card_in}
+use Rattle.cards.proofs.CardLaws.{left_first, left_next, left_none}
 use Rattle.bus.proofs.state.Bus.lines.Goals as goal
 
-pub loop-n-init : goal.loop-n-init
-loop-n-init c = or_start _
+pub loop-level-init : goal.loop-level-init
+loop-level-init c =
+    (omega arith, or_start _)
 
-pub loop-n-preserved : goal.loop-n-preserved
-loop-n-preserved c =
-    let bus = c.args.self in
-    let size : length bus.driven ≡ 16 = search rules in
-    let order = in_place_order bus.driven 16 size (cc) (cc) in
-    let here =
-    turn_placed bus.driven 16 size order c.loop-n.yielded c.loop-n.n-iterator c.next.new.self _ _ c.loop-n.yielded_by c.in-Some.is
-    c.next.ensures.steps in
-    or_next _ _ c.loop-n.invariant (c.counted-lines.ensures ∙ ap (λ (p : ℕ × ℕ). cond (card_in bus.contenders p.0) p.1 0) here)
-    ∙ ap (or_below _) (sym (length_push c.loop-n.yielded _))
+pub loop-level-preserved : goal.loop-level-preserved
+loop-level-preserved c =
+    let inv = c.loop-level.invariant in
+    let size : length c.args.self.driven ≡ 16 = search rules in
+    let card : c.loop-level.level-index < 16 = omega (arith, size, c.loop-level-test.true) in
+    (left_next _ _ inv.0, or_next _ _ inv.1 (rw (← left_first _ _ inv.0 card) c.counted-lines.ensures))
 
-pub returns : goal.returns
+pub returns-after-loop-level : goal.returns-after-loop-level
 unfolding shown
-returns c =
-    let driven = c.args.self.driven in
-    let size : length driven ≡ 16 = search rules in
-    let order = in_place_order driven 16 size (cc) (cc) in
-    let end = end_placed driven 16 size order c.loop-n.yielded c.loop-n.n-iterator c.next.new.self _ c.loop-n.yielded_by c.in-None.is c.next.ensures.steps in
-    c.loop-n.invariant ∙ ap (or_below _) end
+returns-after-loop-level c =
+    let size : length c.args.self.driven ≡ 16 = search rules in
+    let passed : c.loop-level.level-index ≤ 16 = omega (arith, size, c.loop-level.auto) in
+    at_bound (or_below _) c.loop-level.invariant.1 passed (omega (arith, size, c.loop-level-test.false))
+
+pub returns-then-left-eq0 : goal.returns-then-left-eq0
+unfolding shown
+returns-then-left-eq0 c =
+    let inv = c.loop-level.invariant in
+    let size : length c.args.self.driven ≡ 16 = search rules in
+    let card : c.loop-level.level-index < 16 = omega (arith, size, c.loop-level-test.true) in
+    inv.1 ∙ or_rest _ _ 16 (omega (arith, card)) (λ k l h. rw (left_none _ _ inv.0 (omega (arith, c.if-left-eq0.true)) k l h))
