@@ -15,7 +15,8 @@ returns-then-answer-ne-ACCEPTED c = rw (no_picture c.args.event c.args.answer c.
 pub returns-in-Ok : goal.returns-in-Ok
 unfolding moments_of
 returns-in-Ok c =
-    let strobe : has_strobe c.args.event.kind ≡ true = ap has_strobe (sym c.in-Ok.ensures) ∙ sym (cycle_has_strobe c.in-Ok.kind) ∙ sym c.is_cycle.ensures ∙ c.if-is_cycle.true in
+    let strobe : has_strobe c.args.event.kind ≡ true =
+    ap has_strobe (sym c.in-Ok.ensures.1) ∙ sym (cycle_has_strobe c.in-Ok.kind) ∙ sym c.is_cycle.ensures ∙ c.if-is_cycle.true in
     rw (eq-eqb _ _ c.if-answer-ne-ACCEPTED.false, strobe) c.put_cycle_lines.ensures
 
 pub returns-in_default : goal.returns-in_default
@@ -25,8 +26,8 @@ returns-in_default c =
     let answer = c.args.answer in
     let still : has_strobe event.kind ≡ false = elim c.in_default.branch [
       | in_default-via-in-Ok+else-is_cycle w ↦
-          ap has_strobe (sym w.in-Ok.ensures) ∙ sym (cycle_has_strobe w.in-Ok.kind) ∙ sym w.is_cycle.ensures ∙ w.if-is_cycle.false
-      | in_default-via-in_default w ↦ none_has_strobe event.kind w.in_default.ensures.1
+          ap has_strobe (sym w.in-Ok.ensures.1) ∙ sym (cycle_has_strobe w.in-Ok.kind) ∙ sym w.is_cycle.ensures ∙ w.if-is_cycle.false
+      | in_default-via-in_default w ↦ none_has_strobe event.kind w.in_default.ensures.1.1
     ] in
     let one = one_pictured c.args.lines.now (idle_moment event answer) c.idle_moment.ensures (c.put_one.ensures.put, c.put_one.ensures.left) in
     rw (eq-eqb _ _ c.if-answer-ne-ACCEPTED.false, still) record { put = one.0; left = one.1 }
