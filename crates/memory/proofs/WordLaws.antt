@@ -14,7 +14,7 @@ use borrow.Author.Tests.{ltb-true, eqb-true, lt-ltb, eq-eqb}
 use Rattle.words.proofs.TestLaws.{true_or_false}
 use Rattle.memory.specs.declared.Slave.{Slave}
 use Rattle.memory.specs.Halves.{even_half, odd_half, word_of}
-use Rattle.memory.specs.Slave.{asserts_sixtn}
+use Rattle.memory.specs.Slave.{eight_bit_page, slave, asserts_sixtn}
 use Rattle.memory.specs.Cycles.{in_one_cycle, nothing, byte_read, byte_write, pair_at, ganged_read, ganged_write, after_ganged_write}
 use Rattle.memory.specs.Cycles.{serial_read, serial_write, after_serial_write, word_fits, has_word, word_read, word_write, after_word_write}
 use Rattle.memory.specs.Promises.{HalvesMakeTheDatum, WordLies, in_word_cycles}
@@ -80,6 +80,24 @@ module _ (m : List ℕ) (a : ℕ) where
       either : (b : Bool) → cond b (after_ganged_write m a v) (after_serial_write m a v) ≡ set (set m a (even_half v)) (a + 1) (odd_half v)
       either true = ganged_is_serial v h
       either false = refl
+
+  -- on a page of eight bits it is two byte cycles
+  pub word_read_serial : has_word m a ≡ true → word_read (slave eight_bit_page) m a ≡ serial_read m a
+  unfolding word_read
+  word_read_serial h = rw h
+
+  pub word_write_serial : (v : ℕ) → has_word m a ≡ true → word_write (slave eight_bit_page) m a v ≡ serial_write m a v
+  unfolding word_write
+  word_write_serial v h = rw h
+
+  -- a slave is known by SIXTN alone
+  pub word_read_alike : (s t : Slave) → asserts_sixtn s ≡ asserts_sixtn t → word_read s m a ≡ word_read t m a
+  unfolding word_read
+  word_read_alike s t same = rw same
+
+  pub word_write_alike : (s t : Slave) (v : ℕ) → asserts_sixtn s ≡ asserts_sixtn t → word_write s m a v ≡ word_write t m a v
+  unfolding word_write
+  word_write_alike s t v same = rw same
 
   -- where there is none, nothing is moved and nothing changes
   pub no_word_read : (s : Slave) → has_word m a ≡ false → word_read s m a ≡ nothing

@@ -1,18 +1,20 @@
 -- Digits without a branch; numbers digit by digit.
 use mathlib.Core.Path.{◌≡◌, refl, sym, ap, ◌∙◌}
 use mathlib.Core.Logic.{◌⊎◌, inl, inr, ⊎_elim}
-use mathlib.Core.Bool.{Bool, true, false, cond, ◌&&◌, false≢true}
+use mathlib.Core.Bool.{Bool, true, false, cond, not, ◌&&◌, false≢true}
 use mathlib.Core.List.{List, [], ◌∷◌, map}
-use Prim.Native.Nat.{ℕ, zero, suc, ◌+◌, ◌*◌, ◌-◌, ◌/◌, ◌%◌, ◌<◌, ◌≤◌}
+use Prim.Native.Nat.{ℕ, zero, suc, ◌+◌, ◌*◌, ◌-◌, ◌/◌, ◌%◌, ◌^◌, ◌<◌, ◌≤◌}
 use native.Mathlib.Omega.{arith}
-use lib.Dec.{leb}
+use lib.Dec.{eqb, leb}
 use lib.ListN.{length, get_or, take, drop, length-append, length-drop}
 use lib.Seq.{drop-cons, length-take-le}
 use Rattle.std.proofs.lemmas.Grind.{same_number_lists}
 use Rattle.std.proofs.lemmas.List.{length-map, get_or-map, get_or-take, get_or-drop}
 use borrow.Author.Tests.{leb-true, leb-false, le-leb, lt-leb}
+use Rattle.words.specs.Below.{all_below}
 use Rattle.words.specs.Among.{every_listed}
 use Rattle.words.specs.Parts.{Sized}
+use Rattle.words.proofs.BelowLaws.{same_tests_below}
 use Rattle.words.proofs.TestLaws.{true_or_false, either_of, then_pick, else_pick, both_of}
 use Rattle.words.proofs.ListLaws.{every_at}
 use Rattle.text.specs.Digits.{is_digit, value_of, digit_of, number_after, number_of, digits_of, in_digits}
@@ -139,3 +141,15 @@ pages_from line pages at count long within each =
     each k here
     ∙ ap value_of (sym (get_or-drop at line k 0) ∙ sym (get_or-take count (drop at line) k 0 here))
     ∙ sym (get_or-map value_of digits k 0 0 (omega (arith, here, so_many))))
+
+-- ---- Which bytes are digits, by a bit for each
+
+each_bit : all_below (λ k. cond (eqb (0x7E03FF / 2 ^ k % 2) 1) (is_digit (0x30 + k)) (not (is_digit (0x30 + k)))) 23 ≡ true
+unfolding all_below
+each_bit = refl
+
+pub digit_bit : (b : ℕ) → 0x30 ≤ b → b ≤ 0x46 → eqb (0x7E03FF / 2 ^ (b - 0x30) % 2) 1 ≡ is_digit b
+digit_bit b low high =
+    let place : 0x30 + (b - 0x30) ≡ b = omega (arith, low) in
+    same_tests_below (λ k. eqb (0x7E03FF / 2 ^ k % 2) 1) (λ k. is_digit (0x30 + k)) 23 each_bit (b - 0x30) (omega (arith, low, high))
+    ∙ ap (λ (k : ℕ). is_digit k) place

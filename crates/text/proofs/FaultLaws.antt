@@ -155,6 +155,16 @@ by_fault count line P right size character = go (eqb (length line) count) refl (
     go true e false a = character (eqb-true (length line) count e) (first_wrong line a)
     go false e all a = size (eqb-false (length line) count e)
 
+-- a line without a number is right
+pub faultless : (count : ℕ) (line : List ℕ) → (fault_of count line).refusal ≡ accepted → is_digits count line ≡ true
+faultless count line =
+    by_fault count line (λ f. f.refusal ≡ accepted → is_digits count line ≡ true) (λ right e. right) (λ other e. absurd (omega (arith, e)))
+    (λ size first e. absurd (omega (arith, e)))
+
+pub faulty : (count : ℕ) (line : List ℕ) → ((fault_of count line).refusal ≡ accepted → ⊥) → is_digits count line ≡ false
+faulty count line some =
+    ⊎_elim (λ right. absurd (some (ap number (no_fault count line right)))) (λ wrong. wrong) (true_or_false (is_digits count line))
+
 -- a line that isn't right has a number
 pub some_fault : (count : ℕ) (line : List ℕ) → is_digits count line ≡ false → eqb (fault_of count line).refusal accepted ≡ false
 some_fault count line wrong =

@@ -4,13 +4,13 @@ use mathlib.Core.Path.{◌≡◌, refl, sym, ap, ap₂, ◌∙◌}
 use mathlib.Core.Logic.{◌⊎◌, ⊎_elim}
 use mathlib.Core.Bool.{Bool, true, false, not, cond, ◌&&◌, ◌||◌, and-eq-true_iff, true≢false}
 use Prim.Native.Nat.{ℕ, zero, suc, ◌+◌, ◌-◌, ◌/◌, ◌^◌, ◌<◌, ◌≤◌}
-use native.Mathlib.Nat.{not-suc-le-zero, le_of_suc-le-suc, eq-or-lt_of_le, le_step, lt-suc_self}
+use native.Mathlib.Nat.{not-suc-le-zero, le_antisymm, le_of_suc-le-suc, eq-or-lt_of_le, le_step, lt-suc_self}
 use native.Mathlib.Numerals.{add-one}
 use native.Mathlib.Omega.{arith}
 use lib.Dec.{eqb}
 use lib.ListN.{length, get_or}
 use lib.Pow.{pow_pos}
-use lib.Bits.{bit_or, or_shr, or_lt, or_comm}
+use lib.Bits.{bit_or, or_shr, or_lt, or_comm, or_zero_r}
 use borrow.Author.Tests.{eqb-true}
 use Rattle.words.specs.Bits.{bit_at}
 use Rattle.words.specs.Below.{all_below, or_below, list_below}
@@ -44,15 +44,26 @@ some_not test (suc n) e = go (all_below test n) (some_not test n) e
     go true below f = (n, (lt-suc_self n, f))
     go false below f = let found = below refl in (found.0, (le_step found.1.0, found.1.1))
 
--- Going through the numbers in order, as a loop does: at first nothing is gathered; what is gathered so far, with the next one, is what is
--- gathered one further.
+-- Going through the numbers in order, as a loop does: at first nothing is asked; what is found so far, with the next one, is what is found one
+-- further; and what is found when the bound has been reached is found of all.
+pub all_start : (test : ℕ → Bool) → true ≡ all_below test 0
+unfolding all_below
+all_start test = refl
+
 pub or_start : (f : ℕ → ℕ) → 0 ≡ or_below f 0
 unfolding or_below
 or_start f = refl
 
+pub all_next : (test : ℕ → Bool) (n : ℕ) {ok passes : Bool} → ok ≡ all_below test n → passes ≡ test n → (ok && passes) ≡ all_below test (n + 1)
+unfolding all_below
+all_next test n e t = ap₂ ◌&&◌ e t ∙ ap (all_below test) (sym (add-one n))
+
 pub or_next : (f : ℕ → ℕ) (n : ℕ) {so_far x : ℕ} → so_far ≡ or_below f n → x ≡ f n → bit_or so_far x ≡ or_below f (n + 1)
 unfolding or_below
 or_next f n e t = ap₂ bit_or e t ∙ ap (or_below f) (sym (add-one n))
+
+pub at_bound : {A : Type 0} (f : ℕ → A) {found : A} {n m : ℕ} → found ≡ f n → n ≤ m → m ≤ n → found ≡ f m
+at_bound f e h l = e ∙ ap f (le_antisymm h l)
 
 pub all_same : (f g : ℕ → Bool) (n : ℕ) → ((k : ℕ) → k < n → f k ≡ g k) → all_below f n ≡ all_below g n
 unfolding all_below
@@ -105,6 +116,19 @@ unfolding or_below
 or_below_lt w f zero each = pow_pos w
 or_below_lt w f (suc n) each =
     or_lt w (or_below f n) (f n) (or_below_lt w f n (λ k h. each k (le_step h))) (each n (lt-suc_self n))
+
+-- where all from n on are 0, the OR of those below n is the OR of all
+pub or_rest : (f : ℕ → ℕ) (n m : ℕ) → n ≤ m → ((k : ℕ) → n ≤ k → k < m → f k ≡ 0) → or_below f n ≡ or_below f m
+unfolding or_below
+or_rest f n zero h each = at_bound (or_below f) refl h (omega arith)
+or_rest f n (suc m) h each =
+    ⊎_elim
+    (λ (q : n ≡ suc m). ap (or_below f) q)
+    (λ l.
+    or_rest f n m (le_of_suc-le-suc l) (λ k a b. each k a (le_step b))
+    ∙ sym (or_zero_r (or_below f m))
+    ∙ ap (bit_or (or_below f m)) (sym (each m (le_of_suc-le-suc l) (lt-suc_self m))))
+    (eq-or-lt_of_le h)
 
 -- numbers that agree from place j up, one by one, have ORs that agree there
 pub or_below_agree : (j : ℕ) (f g : ℕ → ℕ) (n : ℕ) → ((k : ℕ) → k < n → f k / 2 ^ j ≡ g k / 2 ^ j) → or_below f n / 2 ^ j ≡ or_below g n / 2 ^ j
