@@ -1,6 +1,6 @@
 // What stands on the bus at each moment that an accepted event's picture shows; an address or a byte that nobody drives counts as 0.
 ghost use Rattle.std.specs.Prelude.{◌≡◌, ◌||◌, unwrap_or, is_some};
-ghost use Rattle.memory.specs.Halves.{odd_half};
+ghost use Rattle.memory.specs.Halves.{even_half, odd_half};
 ghost use Rattle.phases.specs.Kinds.{number_of_kind};
 ghost use Rattle.pins.specs.Moments.{moment_of, idle_moment, byte_moment, word_moment, even_moment, odd_moment, odd_of_pair, without_request};
 ghost use Rattle.picturing.specs.Fives.{quieted};
@@ -34,7 +34,7 @@ impl Cycle {
     pub fn byte(self) -> Quiet
         ensures { result.moment ≡ quieted (byte_moment self.event self.answer self.answer.signals self.event.address (odd_half self.answer.datum)) }
     {
-        let [_, byte] = self.answer.datum.to_be_bytes();
+        let byte = odd_half(self.answer.datum);
         self.byte_at(self.event.address, self.answer.signals, byte)
     }
 
@@ -42,7 +42,8 @@ impl Cycle {
     pub fn word(self) -> Quiet
         ensures { result.moment ≡ quieted (word_moment self.event self.answer) }
     {
-        let [even, odd] = self.answer.datum.to_be_bytes();
+        let even = even_half(self.answer.datum);
+        let odd = odd_half(self.answer.datum);
         moment(
             self.event,
             self.answer,
@@ -57,7 +58,7 @@ impl Cycle {
     pub fn even(self) -> Quiet
         ensures { result.moment ≡ quieted (even_moment self.event self.answer) }
     {
-        let [even, _] = self.answer.datum.to_be_bytes();
+        let even = even_half(self.answer.datum);
         self.byte_at(self.event.address, self.answer.signals, even)
     }
 
@@ -66,7 +67,7 @@ impl Cycle {
         ensures { result.moment ≡ quieted (odd_moment self.event self.answer) }
     {
         let signals = without_request(self.answer.signals);
-        let [_, odd] = self.answer.datum.to_be_bytes();
+        let odd = odd_half(self.answer.datum);
         self.byte_at(odd_of_pair(self.event.address), signals, odd)
     }
 
@@ -116,6 +117,19 @@ fn moment(
             dinDriven: into.is_some(),
         },
     }
+}
+
+// Kept: a datum's halves by division, since no array is held where digits are put, and `to_be_bytes` gives one.
+fn even_half(datum: u16) -> u8
+    ensures { result ≡ even_half datum }
+{
+    (datum / 0x100) as u8
+}
+
+fn odd_half(datum: u16) -> u8
+    ensures { result ≡ odd_half datum }
+{
+    (datum % 0x100) as u8
 }
 
 fn odd_of_pair(address: u32) -> u32

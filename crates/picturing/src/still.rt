@@ -91,5 +91,35 @@ fn put_still_rest(rest: &mut [u8; 30])
     ensures { (m : Moment) → m.cyclic ≡ false → m.doutDriven ≡ false → m.dinDriven ≡ false
         → rest.new ≡ five_levels 20 m ++ driven_of m }
 {
-    rest.copy_from_slice(b"00000000466C000000390105C00000");
+    // Kept: thirty stores and no `copy_from_slice` of thirty digits, since digits are not copied.
+    rest[0] = b'0';
+    rest[1] = b'0';
+    rest[2] = b'0';
+    rest[3] = b'0';
+    rest[4] = b'0';
+    rest[5] = b'0';
+    rest[6] = b'0';
+    rest[7] = b'0';
+    rest[8] = b'4';
+    rest[9] = b'6';
+    rest[10] = b'6';
+    rest[11] = b'C';
+    rest[12] = b'0';
+    rest[13] = b'0';
+    rest[14] = b'0';
+    rest[15] = b'0';
+    rest[16] = b'0';
+    rest[17] = b'0';
+    rest[18] = b'3';
+    rest[19] = b'9';
+    rest[20] = b'0';
+    rest[21] = b'1';
+    rest[22] = b'0';
+    rest[23] = b'5';
+    rest[24] = b'C';
+    rest[25] = b'0';
+    rest[26] = b'0';
+    rest[27] = b'0';
+    rest[28] = b'0';
+    rest[29] = b'0';
 }

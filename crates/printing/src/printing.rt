@@ -78,7 +78,9 @@ pub fn put_numbers(part: &mut [u8; 8], first: u8, second: u8, third: u8, fourth:
 fn put_cycle(part: &mut [u8; CYCLE_LENGTH], signals: u8, status: u8, cycles: u8, datum: u16)
     ensures { part.new ≡ digits_of 2 signals ++ digits_of 2 status ++ digits_of 2 cycles ++ digits_of 4 datum ++ newline ∷ [] }
 {
-    let [high, low] = datum.to_be_bytes();
+    // Kept: a datum's halves by division, since no array is held where digits are put, and `to_be_bytes` gives one.
+    let high = (datum / 256) as u8;
+    let low = (datum % 256) as u8;
     part[0] = digit(signals / 16);
     part[1] = digit(signals);
     part[STATUS_IN] = digit(status / 16);
