@@ -17,7 +17,5 @@ pub fn all_at_most(most: u8, numbers: &[u8]) -> bool
 pub fn all_in(set: u16, cards: &[u8]) -> bool
     ensures { result ≡ cards_within set cards.now }
 {
-    cards
-        .iter()
-        .fold(true, |all, &card| all & ((15 < card) | card_in(set, card)))
+    cards.iter().fold(true, |all, &card| all & ((15 < card) | card_in(set, card)))
 }

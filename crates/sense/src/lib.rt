@@ -85,7 +85,8 @@ fn grant_fits(bus: Bus) -> bool
 fn driving_fits(contenders: u16, driven: [u8; 16]) -> bool
     ensures { result ≡ driving_fits contenders driven }
 {
-    (0..16)
-        .zip(&driven)
-        .fold(true, |fits, (n, &level)| fits & (level <= counted(contenders, n, 15)))
+    (0..16).zip(&driven).fold(
+        true,
+        |fits, (n, &level)| fits & (level <= counted(contenders, n, 15)),
+    )
 }
