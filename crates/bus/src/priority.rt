@@ -23,13 +23,15 @@ impl Bus {
         lines
     }
 
-    // Whoever contends would go on driving the same after a look.
+    // Whoever contends would go on driving the same after a look. All are asked, without a branch on what is found, so that they are asked at once.
     pub fn is_settled(self) -> bool
         ensures { result ≡ is_settled self }
     {
         let lines = self.lines();
         (0..16)
             .zip(&self.driven)
-            .all(|(n, &level)| stays(self.contenders, n, level, lines))
+            .fold(true, |settled, (n, &level)| {
+                settled & stays(self.contenders, n, level, lines)
+            })
     }
 }

@@ -58,5 +58,5 @@ pub fn look_at(number: u8, lines: u8) -> u8
 pub fn stays(contenders: u16, n: u8, level: u8, lines: u8) -> bool
     ensures { result ≡ (not (card_in contenders n) || eqb (look 4 n lines) level) }
 {
-    !card_in(contenders, n) || look_at(n, lines) == level
+    !card_in(contenders, n) | (look_at(n, lines) == level)
 }

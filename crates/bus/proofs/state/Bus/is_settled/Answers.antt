@@ -1,11 +1,13 @@
--- What the closure asks of each card.
+-- What the closure gathers of each card.
 use Prim.Native.Nat.{ℕ}
-use mathlib.Core.Path.{◌∙◌}
-use mathlib.Core.Bool.{not, ◌||◌}
+use mathlib.Core.Path.{◌≡◌, ◌∙◌}
+use mathlib.Core.Bool.{Bool, true, not, ◌&&◌, ◌||◌}
 use lib.Dec.{eqb}
+use lib.ListN.{length}
 use Rattle.std.proofs.Common.{rules, tests}
-use Rattle.std.proofs.lemmas.Iterator.Search.{all_from_yields_List}
-use Rattle.words.proofs.PlacedLaws.{each_place_holds, in_place_order}
+use Rattle.std.proofs.lemmas.Iterator.Consumers.{fold_from_yields_List}
+use Rattle.words.proofs.ListLaws.{all_gathered}
+use Rattle.words.proofs.PlacedLaws.{placed, each_place_holds, in_place_order}
 use Rattle.lines.specs.Look.{look}
 use Rattle.lines.specs.Arbitration.{settled, every_contender, looked}
 use Rattle.cards.specs.Cards.{card_in}
@@ -15,9 +17,11 @@ pub returns : goal.returns
 unfolding settled every_contender looked
 returns c =
     let bus = c.args.self in
-    all_from_yields_List
-    (λ (p : ℕ × ℕ). not (card_in bus.contenders p.0) || eqb (look 4 p.0 c.lines-lines.result) p.1) c.all.new.self _ _ c.all.ensures.ran
-    (in_place_order bus.driven 16 (search rules) (cc) (cc))
-    (λ x b q k. search (rules, tests))
-    ∙ each_place_holds bus.driven 16 (search rules) (λ n level. not (card_in bus.contenders n) || eqb (look 4 n c.lines-lines.result) level)
+    let size : length bus.driven ≡ 16 = search rules in
+    let stays : ℕ → ℕ → Bool = λ n level. not (card_in bus.contenders n) || eqb (look 4 n c.lines-lines.result) level in
+    fold_from_yields_List _ (λ all (p : ℕ × ℕ). all && stays p.0 p.1) true _ c.fold.ensures.ran
+    (in_place_order bus.driven 16 size (cc) (cc))
+    (λ all x b q k. search (rules, tests))
+    ∙ all_gathered (λ (p : ℕ × ℕ). stays p.0 p.1) true (placed bus.driven 16 size)
+    ∙ each_place_holds bus.driven 16 size stays
     ∙ rw c.lines-lines.ensures
